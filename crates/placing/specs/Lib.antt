@@ -1,0 +1,5 @@
+pub mod Operation
+pub mod Sequential
+pub mod Sorting
+pub mod OneOrder
+pub mod Facts

@@ -1,0 +1,3 @@
+pub mod Clock
+pub mod Quorum
+pub mod Stamps
