@@ -1,3 +1,4 @@
 pub mod Clock
 pub mod Quorum
+pub mod Ranges
 pub mod Stamps

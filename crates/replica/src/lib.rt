@@ -1,5 +1,8 @@
-// One replica: the words of the method, the small rules (stamps, clock, replier set, majority), and the handlers of one process.
-pub mod clock;
+// One replica: the words of the method, its small rules (stamps, clock, replier set, majority, ranges), and the handlers of one process.
+// Everything goes by value, and every public function is total: it has no `requires`.
+mod clock;
+
 pub mod quorum;
+pub mod ranges;
 pub mod stamps;
 pub mod words;

@@ -1,6 +1,6 @@
-// The words that everything else is said in: what is counted, what is stored, what is sent.
+// The words that everything else is said in: what is counted, what is stored, what is sent, and what a handler answers.
 
-// Logical times, request numbers and process numbers are counted apart (lt, rid and i of Algorithm 1).
+// Logical times, request numbers and process numbers are counted apart (lt, rid and i of Algorithm 1), and none is taken for another.
 pub struct Time(pub u16);
 
 pub struct Rid(pub u16);
@@ -17,7 +17,7 @@ pub struct Pair {
     pub value: i64,
 }
 
-// What a message says. A register is 1 to 16.
+// What a message says: a register; a stamp and a value; all three; or nothing.
 pub enum Body {
     Query(u8),
     Response(Pair),
@@ -25,6 +25,7 @@ pub enum Body {
     Ack,
 }
 
+// The envelope, and the body inside.
 pub struct Message {
     pub number: u32,
     pub from: Pid,
@@ -32,4 +33,50 @@ pub struct Message {
     pub time: Time,
     pub rid: Rid,
     pub body: Body,
+}
+
+// What a replica does: nothing; or it waits for replies on behalf of a row of the history. While querying it keeps the greatest pair
+// counted so far, while updating the pair that it sent.
+pub enum Phase {
+    Idle,
+    Querying(u16, Pair),
+    Updating(u16, Pair),
+}
+
+// A replica of which every number is 0 is up and idle. Register x is at place x - 1.
+pub struct Replica {
+    pub crashed: bool,
+    pub clock: Time,
+    pub rid: Rid,
+    pub phase: Phase,
+    pub repliers: u8,
+    pub pairs: [Pair; 16],
+}
+
+// What a sender puts into a message; its number and its two ends are the carrier's to add.
+pub struct Letter {
+    pub time: Time,
+    pub rid: Rid,
+    pub body: Body,
+}
+
+// What a handler sends: nothing, one reply, or one broadcast to all processes.
+pub enum Sends {
+    Nothing,
+    Reply(Pid, Letter),
+    Broadcast(Letter),
+}
+
+// Whether the operation ended: not yet, or at this response time with the chosen pair.
+pub enum Ended {
+    Pending,
+    At(Time, Pair),
+}
+
+// What a handler answers: a number of document 01 (0 is accepted), and what follows.
+pub struct Answer {
+    pub refusal: u8,
+    pub replica: Replica,
+    pub sends: Sends,
+    pub ended: Ended,
 }
