@@ -1,5 +1,6 @@
 // The replier set is one byte: process i is bit i, so bit 0 is never set. A phase ends with a majority of the processes.
 ghost use mathlib.Core.Path.{_≡_};
+ghost use lib.Dec.{leb};
 ghost use Rattle.replica.specs.Quorum.{member, joined, counted, majorityOf};
 
 // The greatest process number.
@@ -33,4 +34,11 @@ pub fn majority(n: u8) -> u8
     ensures { λ r. ⌜ r ≡ majorityOf n ⌝ }
 {
     n / 2 + 1
+}
+
+// Whether the processes that replied are a majority of `n`.
+pub fn is_majority(repliers: u8, n: u8) -> bool
+    ensures { λ r. ⌜ r ≡ leb (majorityOf n) (counted repliers) ⌝ }
+{
+    majority(n) as u32 <= size(repliers)
 }

@@ -1,12 +1,22 @@
 // Document 01's ranges, as far as one replica can see them. Outside of them a handler answers 18.
 ghost use mathlib.Core.Path.{_≡_};
 ghost use Rattle.replica.specs.Ranges.{within, isZero, stampFits, pairFits, waitFits, phaseFits, replicaFits, senderFits};
-use crate::words::{Pair, Phase, Pid, Replica, Rid, Stamp, Time};
+use crate::words::Pair;
+use crate::words::Phase;
+use crate::words::Pid;
+use crate::words::Replica;
+use crate::words::Rid;
+use crate::words::Stamp;
+use crate::words::Time;
 
 pub const EVENTS: u16 = 12000;
+
 pub const REQUESTS: u16 = 24000;
+
 pub const PROCESSES: u8 = 7;
+
 pub const REGISTERS: u8 = 16;
+
 pub const ROWS: u16 = 1024;
 
 // A number from 1 to `most`.

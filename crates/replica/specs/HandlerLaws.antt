@@ -1,0 +1,123 @@
+-- Laws of the handlers: what a refusal says, and that inside the ranges a handler is its plain rule.
+use Prim.Native.Nat.{ℕ}
+use mathlib.Core.Path.{_≡_, refl, sym, _∙_, ap}
+use mathlib.Core.Bool.{Bool, true, false, cond, _&&_}
+use lib.Dec.{eqb}
+use lib.IntN.{ℤ}
+use borrow.Author.Tests.{eq-eqb, ne-eqb, eqb-false}
+use Rattle.replica.specs.declared.words.Answer.{Answer}
+use Rattle.replica.specs.declared.words.Pair.{Pair}
+use Rattle.replica.specs.declared.words.Pid.{Pid}
+use Rattle.replica.specs.declared.words.Replica.{Replica}
+use Rattle.replica.specs.declared.words.Rid.{Rid}
+use Rattle.replica.specs.declared.words.Time.{Time}
+use Rattle.replica.specs.Handlers.{
+  unlessRefused,
+  refused,
+  isIdle,
+  beginRefusal,
+  downRefusal,
+  readRefusal,
+  readRule,
+  readBegun,
+  writeRefusal,
+  writeRule,
+  writeBegun,
+  storedFits,
+  requestFits,
+  queryRefusal,
+  queryRule,
+  queryReceived,
+  updateRefusal,
+  updateRule,
+  updateReceived,
+  replyFits,
+  responseRefusal,
+  responseRule,
+  responseReceived,
+  ackRefusal,
+  ackRule,
+  ackReceived,
+  crashRefusal,
+  crashRule,
+  crashed,
+}
+use Rattle.replica.specs.Ranges.{within, pairFits, replicaFits, senderFits}
+use Rattle.replica.specs.RangeLaws.{and-left, and-right}
+
+-- ---- a number that is 0 lets the rule through, another one refuses
+
+module _ (m number : ℕ) (r : Replica) (rule : Answer) (is : m ≡ number) where
+  pub rule-by : m ≡ 0 → rule ≡ unlessRefused number r rule
+  rule-by e = simp (eq-eqb number 0 (sym is ∙ e))
+
+  pub refuse-by : (m ≡ 0 → ⊥) → refused m r ≡ unlessRefused number r rule
+  refuse-by n =
+      let k : number ≡ 0 → ⊥ = λ e. n (is ∙ e) in
+      simp (ne-eqb number 0 k) (ap (λ x. refused x r) is)
+
+begin-inside : (fits crashed idle : Bool) → beginRefusal fits crashed idle ≡ 0 → fits ≡ true
+unfolding beginRefusal
+begin-inside true crashed idle e = refl
+begin-inside false crashed idle e = absurd (eqb-false 18 0 refl e)
+
+down-inside : (number : ℕ) (fits crashed : Bool) → downRefusal number fits crashed ≡ 0 → fits ≡ true
+unfolding downRefusal
+down-inside number true crashed e = refl
+down-inside number false crashed e = absurd (eqb-false 18 0 refl e)
+
+-- ---- the case that a test picks
+
+pub picks-first : {A : Type 0} (test : Bool) (a b : A) → test ≡ true → a ≡ cond test a b
+picks-first test a b e = simp e
+
+pub picks-second : {A : Type 0} (test : Bool) (a b : A) → test ≡ false → b ≡ cond test a b
+picks-second test a b e = simp e
+
+-- ---- what is accepted was inside the ranges
+
+pub read-inside : (r : Replica) (x row : ℕ) → readRefusal r x row ≡ 0 → replicaFits r ≡ true
+unfolding readRefusal
+read-inside r x row e = and-left _ _ (and-left _ _ (begin-inside _ _ _ e))
+
+pub write-inside : (r : Replica) (me : Pid) (x row : ℕ) → writeRefusal r me x row ≡ 0 → replicaFits r ≡ true
+unfolding writeRefusal
+write-inside r me x row e = and-left _ _ (and-left _ _ (and-left _ _ (begin-inside _ _ _ e)))
+
+abbrev pub RequestInside : Replica → Pid → Time → Rid → ℕ → Type 0
+RequestInside r from time rid x = (replicaFits r ≡ true) × (senderFits from time rid ≡ true) × (within x 16 ≡ true)
+
+request-inside : (r : Replica) (from : Pid) (time : Time) (rid : Rid) (x : ℕ) → requestFits r from time rid x ≡ true → RequestInside r from time rid x
+request-inside r from time rid x e =
+    let both : (replicaFits r && senderFits from time rid) ≡ true = and-left _ (storedFits r x) e in (
+      and-left (replicaFits r) (senderFits from time rid) both,
+      and-right (replicaFits r) (senderFits from time rid) both,
+      and-left (within x 16) _ (and-right (replicaFits r && senderFits from time rid) (storedFits r x) e),
+    )
+
+pub query-inside : (r : Replica) (from : Pid) (time : Time) (rid : Rid) (x : ℕ) → queryRefusal r from time rid x ≡ 0 → RequestInside r from time rid x
+unfolding queryRefusal
+query-inside r from time rid x e = request-inside r from time rid x (down-inside _ _ _ e)
+
+pub update-inside : (r : Replica) (from : Pid) (time : Time) (rid : Rid) (x : ℕ) (pair : Pair) → updateRefusal r from time rid x pair ≡ 0 → RequestInside r from time rid x
+unfolding updateRefusal
+update-inside r from time rid x pair e =
+    request-inside r from time rid x (and-left (requestFits r from time rid x) (pairFits 12000 7 pair) (down-inside _ _ _ e))
+
+abbrev pub ReplyInside : Replica → Pid → Time → Rid → Type 0
+ReplyInside r from time rid = (replicaFits r ≡ true) × (senderFits from time rid ≡ true)
+
+reply-inside : (r : Replica) (n : ℕ) (from : Pid) (time : Time) (rid : Rid) → replyFits r n from time rid ≡ true → ReplyInside r from time rid
+reply-inside r n from time rid e =
+    let both : (replicaFits r && senderFits from time rid) ≡ true = and-left _ (within n 7) e in
+    (and-left (replicaFits r) (senderFits from time rid) both, and-right (replicaFits r) (senderFits from time rid) both)
+
+pub response-inside : (r : Replica) (n x : ℕ) (from : Pid) (time : Time) (rid : Rid) (pair : Pair) → responseRefusal r n x from time rid pair ≡ 0 → ReplyInside r from time rid
+unfolding responseRefusal
+response-inside r n x from time rid pair e =
+    reply-inside r n from time rid
+    (and-left (replyFits r n from time rid) (within x 16) (and-left (replyFits r n from time rid && within x 16) (pairFits 12000 7 pair) (down-inside _ _ _ e)))
+
+pub ack-inside : (r : Replica) (n : ℕ) (from : Pid) (time : Time) (rid : Rid) → ackRefusal r n from time rid ≡ 0 → ReplyInside r from time rid
+unfolding ackRefusal
+ack-inside r n from time rid e = reply-inside r n from time rid (down-inside _ _ _ e)

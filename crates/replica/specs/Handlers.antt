@@ -1,0 +1,220 @@
+-- The handlers of one process: document 01, "Events", sentence by sentence. Each rule is what document 000's Algorithm 1 does for the event;
+-- each handler is the rule, guarded by document 01's ranges and refusals.
+use Prim.Native.Nat.{ℕ, _+_, _-_}
+use mathlib.Core.Bool.{Bool, true, false, cond, not, _&&_}
+use mathlib.Core.List.{List}
+use lib.Dec.{leb, eqb}
+use lib.IntN.{ℤ}
+use lib.ListN.{getD, set}
+use Rattle.replica.specs.declared.words.Time.{Time}
+use Rattle.replica.specs.declared.words.Rid.{Rid}
+use Rattle.replica.specs.declared.words.Pid.{Pid}
+use Rattle.replica.specs.declared.words.Stamp.{Stamp}
+use Rattle.replica.specs.declared.words.Pair.{Pair}
+use Rattle.replica.specs.declared.words.Body.{Body}
+use Rattle.replica.specs.declared.words.Body.the-variants.{Query, Response, Update, Ack}
+use Rattle.replica.specs.declared.words.Phase.{Phase}
+use Rattle.replica.specs.declared.words.Phase.the-variants.{Idle, Querying, Updating}
+use Rattle.replica.specs.declared.words.Replica.{Replica}
+use Rattle.replica.specs.declared.words.Letter.{Letter}
+use Rattle.replica.specs.declared.words.Sends.{Sends}
+use Rattle.replica.specs.declared.words.Sends.the-variants.{Nothing, Reply, Broadcast}
+use Rattle.replica.specs.declared.words.Ended.{Ended}
+use Rattle.replica.specs.declared.words.Ended.the-variants.{Pending, At}
+use Rattle.replica.specs.declared.words.Answer.{Answer}
+use Rattle.replica.specs.Clock.{after}
+use Rattle.replica.specs.Quorum.{joined, counted, majorityOf}
+use Rattle.replica.specs.Ranges.{within, pairFits, replicaFits, senderFits}
+use Rattle.replica.specs.Stamps.{stampOf, startPair, newer}
+
+-- ---- what a handler answers
+
+-- the replica at another clock, request number, phase, replier set and store; up or crashed as it was
+abbrev pub moved : Replica → ℕ → ℕ → Phase → ℕ → List Pair → Replica
+moved r clock rid phase repliers pairs =
+    record {
+      crashed = r .crashed;
+      clock = record { 0 = clock };
+      rid = record { 0 = rid };
+      phase = phase;
+      repliers = repliers;
+      pairs = pairs;
+    }
+
+abbrev pub letter : ℕ → ℕ → Body → Letter
+letter time rid body = record { time = record { 0 = time }; rid = record { 0 = rid }; body = body }
+
+abbrev pub accepted : Replica → Sends → Ended → Answer
+accepted r sends ended = record { refusal = 0; replica = r; sends = sends; ended = ended }
+
+-- a refusal leaves the replica as before, sends nothing and ends nothing
+abbrev pub refused : ℕ → Replica → Answer
+refused number r = record { refusal = number; replica = r; sends = Nothing; ended = Pending }
+
+-- the pair stored for register x
+abbrev pub stored : Replica → ℕ → Pair
+stored r x = getD (r .pairs) (x - 1) startPair
+
+-- ---- the rules
+
+-- Read by p of x: clock + 1; request number + 1; broadcast query
+unfoldable pub readRule : Replica → ℕ → ℕ → Answer
+readRule r x row =
+    let clock = r .clock .0 + 1 in
+    let rid = r .rid .0 + 1 in
+    accepted (moved r clock rid (Querying row startPair) (r .repliers) (r .pairs)) (Broadcast (letter clock rid (Query x))) Pending
+
+-- Write by p of v to x: clock + 1; stamp = (clock, p); request number + 1; broadcast update. The local copy does not change
+unfoldable pub writeRule : Replica → Pid → ℕ → ℤ → ℕ → Answer
+writeRule r me x value row =
+    let clock = r .clock .0 + 1 in
+    let rid = r .rid .0 + 1 in
+    let pair : Pair = record { stamp = stampOf clock (me .0); value = value } in
+    accepted (moved r clock rid (Updating row pair) (r .repliers) (r .pairs)) (Broadcast (letter clock rid (Update x pair))) Pending
+
+-- A query is replied to with the stored pair. Replies bear the request's number and the new clock
+unfoldable pub queryRule : Replica → Pid → Time → Rid → ℕ → Answer
+queryRule r from time rid x =
+    let clock = after (r .clock .0) (time .0) in
+    accepted (moved r clock (r .rid .0) (r .phase) (r .repliers) (r .pairs)) (Reply from (letter clock (rid .0) (Response (stored r x)))) Pending
+
+-- An update replaces the stored pair only if its stamp is greater, and is acked in either case
+unfoldable pub updateRule : Replica → Pid → Time → Rid → ℕ → Pair → Answer
+updateRule r from time rid x pair =
+    let clock = after (r .clock .0) (time .0) in
+    accepted
+    (moved r clock (r .rid .0) (r .phase) (r .repliers) (set (r .pairs) (x - 1) (newer (stored r x) pair)))
+    (Reply from (letter clock (rid .0) Ack))
+    Pending
+
+-- the message is taken off and nothing else changes, the clock included
+abbrev pub discarded : Replica → Answer
+discarded r = accepted r Nothing Pending
+
+-- A response that counts. The one that makes a majority: the greatest pair counted is chosen, the set is emptied, request number + 1, update
+-- with that pair is broadcast
+unfoldable pub responseCounted : Replica → ℕ → ℕ → Pid → Time → ℕ → Pair → Answer
+responseCounted r n x from time row best =
+    let clock = after (r .clock .0) (time .0) in
+    let rid = r .rid .0 + 1 in
+    let repliers = joined (r .repliers) (from .0) in
+    cond
+    (leb (majorityOf n) (counted repliers))
+    (accepted (moved r clock rid (Updating row best) 0 (r .pairs)) (Broadcast (letter clock rid (Update x best))) Pending)
+    (accepted (moved r clock (r .rid .0) (Querying row best) repliers (r .pairs)) Nothing Pending)
+
+-- An ack that counts. The one that makes a majority: the set is emptied, request number + 1, the operation completes at this clock
+unfoldable pub ackCounted : Replica → ℕ → Pid → Time → ℕ → Pair → Answer
+ackCounted r n from time row sent =
+    let clock = after (r .clock .0) (time .0) in
+    let rid = r .rid .0 + 1 in
+    let repliers = joined (r .repliers) (from .0) in
+    cond
+    (leb (majorityOf n) (counted repliers))
+    (accepted (moved r clock rid Idle 0 (r .pairs)) Nothing (At (record { 0 = clock }) sent))
+    (accepted (moved r clock (r .rid .0) (Updating row sent) repliers (r .pairs)) Nothing Pending)
+
+-- A response counts only while the replica is querying, and only with the present request number
+abbrev pub responseIn : Phase → Replica → ℕ → ℕ → Pid → Time → Rid → Pair → Answer
+responseIn Idle r n x from time rid pair = discarded r
+responseIn (Querying row best) r n x from time rid pair =
+    cond (eqb (rid .0) (r .rid .0)) (responseCounted r n x from time row (newer best pair)) (discarded r)
+responseIn (Updating row sent) r n x from time rid pair = discarded r
+
+unfoldable pub responseRule : Replica → ℕ → ℕ → Pid → Time → Rid → Pair → Answer
+responseRule r = responseIn (r .phase) r
+
+-- an ack only while updating, and only with the present request number
+abbrev pub ackIn : Phase → Replica → ℕ → Pid → Time → Rid → Answer
+ackIn Idle r n from time rid = discarded r
+ackIn (Querying row best) r n from time rid = discarded r
+ackIn (Updating row sent) r n from time rid = cond (eqb (rid .0) (r .rid .0)) (ackCounted r n from time row sent) (discarded r)
+
+unfoldable pub ackRule : Replica → ℕ → Pid → Time → Rid → Answer
+ackRule r = ackIn (r .phase) r
+
+-- Crash of p: it takes no further step
+unfoldable pub crashRule : Replica → Answer
+crashRule r =
+    accepted
+    (record {
+      crashed = true;
+      clock = r .clock;
+      rid = r .rid;
+      phase = r .phase;
+      repliers = r .repliers;
+      pairs = r .pairs;
+    })
+    Nothing
+    Pending
+
+-- ---- the handlers: the rule where nothing is refused. 18 outside the ranges; then 10 and 11 for an invocation, 10 for a crash, 13 for a
+-- message
+
+abbrev pub unlessRefused : ℕ → Replica → Answer → Answer
+unlessRefused number r rule = cond (eqb number 0) rule (refused number r)
+
+abbrev pub isIdle : Phase → Bool
+isIdle Idle = true
+isIdle (Querying row best) = false
+isIdle (Updating row sent) = false
+
+unfoldable pub beginRefusal : Bool → Bool → Bool → ℕ
+beginRefusal fits crashed idle = cond fits (cond crashed 10 (cond idle 0 11)) 18
+
+unfoldable pub downRefusal : ℕ → Bool → Bool → ℕ
+downRefusal number fits crashed = cond fits (cond crashed number 0) 18
+
+-- a read is begun inside the ranges, by a replica that is up and idle
+unfoldable pub readRefusal : Replica → ℕ → ℕ → ℕ
+readRefusal r x row = beginRefusal (replicaFits r && within x 16 && within row 1024) (r .crashed) (isIdle (r .phase))
+
+unfoldable pub readBegun : Replica → ℕ → ℕ → Answer
+readBegun r x row = unlessRefused (readRefusal r x row) r (readRule r x row)
+
+unfoldable pub writeRefusal : Replica → Pid → ℕ → ℕ → ℕ
+writeRefusal r me x row = beginRefusal (replicaFits r && within (me .0) 7 && within x 16 && within row 1024) (r .crashed) (isIdle (r .phase))
+
+unfoldable pub writeBegun : Replica → Pid → ℕ → ℤ → ℕ → Answer
+writeBegun r me x value row = unlessRefused (writeRefusal r me x row) r (writeRule r me x value row)
+
+-- the pair stored for x is judged too: it is read
+abbrev pub storedFits : Replica → ℕ → Bool
+storedFits r x = within x 16 && pairFits 12000 7 (stored r x)
+
+abbrev pub requestFits : Replica → Pid → Time → Rid → ℕ → Bool
+requestFits r from time rid x = replicaFits r && senderFits from time rid && storedFits r x
+
+unfoldable pub queryRefusal : Replica → Pid → Time → Rid → ℕ → ℕ
+queryRefusal r from time rid x = downRefusal 13 (requestFits r from time rid x) (r .crashed)
+
+unfoldable pub queryReceived : Replica → Pid → Time → Rid → ℕ → Answer
+queryReceived r from time rid x = unlessRefused (queryRefusal r from time rid x) r (queryRule r from time rid x)
+
+unfoldable pub updateRefusal : Replica → Pid → Time → Rid → ℕ → Pair → ℕ
+updateRefusal r from time rid x pair = downRefusal 13 (requestFits r from time rid x && pairFits 12000 7 pair) (r .crashed)
+
+unfoldable pub updateReceived : Replica → Pid → Time → Rid → ℕ → Pair → Answer
+updateReceived r from time rid x pair = unlessRefused (updateRefusal r from time rid x pair) r (updateRule r from time rid x pair)
+
+abbrev pub replyFits : Replica → ℕ → Pid → Time → Rid → Bool
+replyFits r n from time rid = replicaFits r && senderFits from time rid && within n 7
+
+unfoldable pub responseRefusal : Replica → ℕ → ℕ → Pid → Time → Rid → Pair → ℕ
+responseRefusal r n x from time rid pair = downRefusal 13 (replyFits r n from time rid && within x 16 && pairFits 12000 7 pair) (r .crashed)
+
+unfoldable pub responseReceived : Replica → ℕ → ℕ → Pid → Time → Rid → Pair → Answer
+responseReceived r n x from time rid pair =
+    unlessRefused (responseRefusal r n x from time rid pair) r (responseRule r n x from time rid pair)
+
+unfoldable pub ackRefusal : Replica → ℕ → Pid → Time → Rid → ℕ
+ackRefusal r n from time rid = downRefusal 13 (replyFits r n from time rid) (r .crashed)
+
+unfoldable pub ackReceived : Replica → ℕ → Pid → Time → Rid → Answer
+ackReceived r n from time rid = unlessRefused (ackRefusal r n from time rid) r (ackRule r n from time rid)
+
+unfoldable pub crashRefusal : Replica → ℕ
+crashRefusal r = downRefusal 10 (replicaFits r) (r .crashed)
+
+unfoldable pub crashed : Replica → Answer
+crashed r = unlessRefused (crashRefusal r) r (crashRule r)

@@ -1,0 +1,170 @@
+// Why a handler refuses: 18 outside document 01's ranges, then 10, 11 or 13. 0 is accepted.
+ghost use mathlib.Core.Path.{_≡_};
+ghost use Rattle.replica.specs.Handlers.{
+  isIdle,
+  beginRefusal,
+  downRefusal,
+  readRefusal,
+  writeRefusal,
+  storedFits,
+  requestFits,
+  queryRefusal,
+  updateRefusal,
+  replyFits,
+  responseRefusal,
+  ackRefusal,
+  crashRefusal,
+};
+use crate::ranges::EVENTS;
+use crate::ranges::PROCESSES;
+use crate::ranges::REGISTERS;
+use crate::ranges::is_within;
+use crate::ranges::pair_fits;
+use crate::ranges::replica_fits;
+use crate::ranges::row_fits;
+use crate::ranges::sender_fits;
+use crate::store;
+use crate::words::Pair;
+use crate::words::Phase;
+use crate::words::Pid;
+use crate::words::Replica;
+use crate::words::Rid;
+use crate::words::Time;
+
+const CRASHED: u8 = 10;
+
+const PENDING: u8 = 11;
+
+const RECIPIENT_CRASHED: u8 = 13;
+
+const OUT_OF_RANGE: u8 = 18;
+
+pub fn is_idle(phase: Phase) -> bool
+    ensures { λ r. ⌜ r ≡ isIdle phase ⌝ }
+{
+    match phase {
+        Phase::Idle => true,
+        Phase::Querying(_, _) => false,
+        Phase::Updating(_, _) => false,
+    }
+}
+
+// Why an operation is not begun.
+fn begin_refusal(fits: bool, crashed: bool, idle: bool) -> u8
+    ensures { λ r. ⌜ r ≡ beginRefusal fits crashed idle ⌝ }
+{
+    if fits {
+        if crashed {
+            CRASHED
+        } else if idle {
+            0
+        } else {
+            PENDING
+        }
+    } else {
+        OUT_OF_RANGE
+    }
+}
+
+// Why a message is not received, or a crash not taken: `number` stands for a replica that is down.
+fn down_refusal(number: u8, fits: bool, crashed: bool) -> u8
+    ensures { λ r. ⌜ r ≡ downRefusal number fits crashed ⌝ }
+{
+    if fits {
+        if crashed { number } else { 0 }
+    } else {
+        OUT_OF_RANGE
+    }
+}
+
+pub fn read_refusal(r: Replica, register: u8, row: u16) -> u8
+    ensures { λ n. ⌜ n ≡ readRefusal r register row ⌝ }
+{
+    let fits = replica_fits(r) & is_within(register, REGISTERS) & row_fits(row);
+    let phase = r.phase;
+    begin_refusal(fits, r.crashed, is_idle(phase))
+}
+
+pub fn write_refusal(r: Replica, me: Pid, register: u8, row: u16) -> u8
+    ensures { λ n. ⌜ n ≡ writeRefusal r me register row ⌝ }
+{
+    let fits = replica_fits(r)
+        & is_within(me.0, PROCESSES)
+        & is_within(register, REGISTERS)
+        & row_fits(row);
+    let phase = r.phase;
+    begin_refusal(fits, r.crashed, is_idle(phase))
+}
+
+// A register of 1 to 16 whose stored pair is inside the ranges.
+fn stored_fits(r: Replica, register: u8) -> bool
+    ensures { λ b. ⌜ b ≡ storedFits r register ⌝ }
+{
+    if is_within(register, REGISTERS) {
+        pair_fits(store::pair_of(r, register), EVENTS, PROCESSES)
+    } else {
+        false
+    }
+}
+
+fn request_fits(r: Replica, from: Pid, time: Time, rid: Rid, register: u8) -> bool
+    ensures { λ b. ⌜ b ≡ requestFits r from time rid register ⌝ }
+{
+    replica_fits(r) & sender_fits(from, time, rid) & stored_fits(r, register)
+}
+
+pub fn query_refusal(r: Replica, from: Pid, time: Time, rid: Rid, register: u8) -> u8
+    ensures { λ n. ⌜ n ≡ queryRefusal r from time rid register ⌝ }
+{
+    down_refusal(
+        RECIPIENT_CRASHED,
+        request_fits(r, from, time, rid, register),
+        r.crashed,
+    )
+}
+
+pub fn update_refusal(r: Replica, from: Pid, time: Time, rid: Rid, register: u8, pair: Pair) -> u8
+    ensures { λ n. ⌜ n ≡ updateRefusal r from time rid register pair ⌝ }
+{
+    let fits = request_fits(r, from, time, rid, register) & pair_fits(pair, EVENTS, PROCESSES);
+    down_refusal(RECIPIENT_CRASHED, fits, r.crashed)
+}
+
+fn reply_fits(r: Replica, n: u8, from: Pid, time: Time, rid: Rid) -> bool
+    ensures { λ b. ⌜ b ≡ replyFits r n from time rid ⌝ }
+{
+    replica_fits(r) & sender_fits(from, time, rid) & is_within(n, PROCESSES)
+}
+
+pub fn response_refusal(
+    r: Replica,
+    n: u8,
+    register: u8,
+    from: Pid,
+    time: Time,
+    rid: Rid,
+    pair: Pair,
+) -> u8
+    ensures { λ k. ⌜ k ≡ responseRefusal r n register from time rid pair ⌝ }
+{
+    let fits = reply_fits(r, n, from, time, rid)
+        & is_within(register, REGISTERS)
+        & pair_fits(pair, EVENTS, PROCESSES);
+    down_refusal(RECIPIENT_CRASHED, fits, r.crashed)
+}
+
+pub fn ack_refusal(r: Replica, n: u8, from: Pid, time: Time, rid: Rid) -> u8
+    ensures { λ k. ⌜ k ≡ ackRefusal r n from time rid ⌝ }
+{
+    down_refusal(
+        RECIPIENT_CRASHED,
+        reply_fits(r, n, from, time, rid),
+        r.crashed,
+    )
+}
+
+pub fn crash_refusal(r: Replica) -> u8
+    ensures { λ n. ⌜ n ≡ crashRefusal r ⌝ }
+{
+    down_refusal(CRASHED, replica_fits(r), r.crashed)
+}
