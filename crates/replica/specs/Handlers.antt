@@ -22,6 +22,8 @@ use Rattle.replica.specs.declared.words.Sends.the-variants.{Nothing, Rep
 use Rattle.replica.specs.declared.words.Ended.{Ended}
 use Rattle.replica.specs.declared.words.Ended.the-variants.{Pending, At}
 use Rattle.replica.specs.declared.words.Answer.{Answer}
+use Rattle.replica.specs.declared.handlers.Counts.{Counts}
+use Rattle.replica.specs.declared.handlers.Counts.the-variants.{Not, For}
 use Rattle.replica.specs.Clock.{after}
 use Rattle.replica.specs.Quorum.{joined, counted, majorityOf}
 use Rattle.replica.specs.Ranges.{within, pairFits, replicaFits, senderFits}
@@ -87,10 +89,6 @@ updateRule r from time rid x pair =
     (Reply from (letter clock (rid .0) Ack))
     Pending
 
--- the message is taken off and nothing else changes, the clock included
-abbrev pub discarded : Replica → Answer
-discarded r = accepted r Nothing Pending
-
 -- A response that counts. The one that makes a majority: the greatest pair counted is chosen, the set is emptied, request number + 1, update
 -- with that pair is broadcast
 unfoldable pub responseCounted : Replica → ℕ → ℕ → Pid → Time → ℕ → Pair → Answer
@@ -115,23 +113,34 @@ ackCounted r n from time row sent =
     (accepted (moved r clock (r .rid .0) (Updating row sent) repliers (r .pairs)) Nothing Pending)
 
 -- A response counts only while the replica is querying, and only with the present request number
-abbrev pub responseIn : Phase → Replica → ℕ → ℕ → Pid → Time → Rid → Pair → Answer
-responseIn Idle r n x from time rid pair = discarded r
-responseIn (Querying row best) r n x from time rid pair =
-    cond (eqb (rid .0) (r .rid .0)) (responseCounted r n x from time row (newer best pair)) (discarded r)
-responseIn (Updating row sent) r n x from time rid pair = discarded r
-
-unfoldable pub responseRule : Replica → ℕ → ℕ → Pid → Time → Rid → Pair → Answer
-responseRule r = responseIn (r .phase) r
+abbrev pub responseCounts : Phase → Rid → Rid → Counts
+responseCounts Idle own rid = Not
+responseCounts (Querying row best) own rid = cond (eqb (rid .0) (own .0)) (For row best) Not
+responseCounts (Updating row sent) own rid = Not
 
 -- an ack only while updating, and only with the present request number
-abbrev pub ackIn : Phase → Replica → ℕ → Pid → Time → Rid → Answer
-ackIn Idle r n from time rid = discarded r
-ackIn (Querying row best) r n from time rid = discarded r
-ackIn (Updating row sent) r n from time rid = cond (eqb (rid .0) (r .rid .0)) (ackCounted r n from time row sent) (discarded r)
+abbrev pub ackCounts : Phase → Rid → Rid → Counts
+ackCounts Idle own rid = Not
+ackCounts (Querying row best) own rid = Not
+ackCounts (Updating row sent) own rid = cond (eqb (rid .0) (own .0)) (For row sent) Not
+
+-- Otherwise the message is taken off and nothing else changes, the clock included
+abbrev pub discarded : Replica → Answer
+discarded r = accepted r Nothing Pending
+
+abbrev pub responseTaken : Counts → Replica → ℕ → ℕ → Pid → Time → Pair → Answer
+responseTaken Not r n x from time pair = discarded r
+responseTaken (For row best) r n x from time pair = responseCounted r n x from time row (newer best pair)
+
+unfoldable pub responseRule : Replica → ℕ → ℕ → Pid → Time → Rid → Pair → Answer
+responseRule r n x from time rid pair = responseTaken (responseCounts (r .phase) (r .rid) rid) r n x from time pair
+
+abbrev pub ackTaken : Counts → Replica → ℕ → Pid → Time → Answer
+ackTaken Not r n from time = discarded r
+ackTaken (For row sent) r n from time = ackCounted r n from time row sent
 
 unfoldable pub ackRule : Replica → ℕ → Pid → Time → Rid → Answer
-ackRule r = ackIn (r .phase) r
+ackRule r n from time rid = ackTaken (ackCounts (r .phase) (r .rid) rid) r n from time
 
 -- Crash of p: it takes no further step
 unfoldable pub crashRule : Replica → Answer

@@ -2,7 +2,7 @@
 // ranges is answered by 18, and the replica comes back as it was.
 ghost use mathlib.Core.Path.{_≡_};
 ghost use Prim.Native.Nat.{_≤_};
-ghost use Rattle.replica.specs.Handlers.{moved, accepted, refused, readBegun, writeBegun, queryReceived, updateReceived, responseReceived, ackReceived, crashed, responseCounted, ackCounted};
+ghost use Rattle.replica.specs.Handlers.{moved, accepted, refused, readBegun, writeBegun, queryReceived, updateReceived, responseReceived, ackReceived, crashed, responseCounted, ackCounted, responseCounts, ackCounts};
 ghost use Rattle.replica.specs.declared.words.Ended.the-variants.{Pending};
 ghost use Rattle.replica.specs.Stamps.{startPair};
 use crate::clock::after_receiving;
@@ -54,6 +54,44 @@ fn start_pair() -> Pair
             process: Pid(0),
         },
         value: 0,
+    }
+}
+
+// Whether a reply counts: not, or for this row, beside the pair that is kept for it.
+pub enum Counts {
+    Not,
+    For(u16, Pair),
+}
+
+fn counts_response(phase: Phase, own: Rid, rid: Rid) -> Counts
+    ensures { λ r. ⌜ r ≡ responseCounts phase own rid ⌝ }
+{
+    match phase {
+        Phase::Idle => Counts::Not,
+        Phase::Updating(_, _) => Counts::Not,
+        Phase::Querying(row, best) => {
+            if rid.0 == own.0 {
+                Counts::For(row, best)
+            } else {
+                Counts::Not
+            }
+        }
+    }
+}
+
+fn counts_ack(phase: Phase, own: Rid, rid: Rid) -> Counts
+    ensures { λ r. ⌜ r ≡ ackCounts phase own rid ⌝ }
+{
+    match phase {
+        Phase::Idle => Counts::Not,
+        Phase::Querying(_, _) => Counts::Not,
+        Phase::Updating(row, sent) => {
+            if rid.0 == own.0 {
+                Counts::For(row, sent)
+            } else {
+                Counts::Not
+            }
+        }
     }
 }
 
@@ -235,17 +273,10 @@ impl Replica {
             return refuse(refusal, self);
         }
         let phase = self.phase;
-        match phase {
-            Phase::Idle => accept(self, Sends::Nothing),
-            Phase::Updating(_, _) => accept(self, Sends::Nothing),
-            Phase::Querying(row, best) => {
-                if rid.0 == self.rid.0 {
-                    self.response_counted(n, register, from, time, row, newer_of(best, pair))
-                } else {
-                    accept(self, Sends::Nothing)
-                }
-            }
-        }
+        let Counts::For(row, best) = counts_response(phase, self.rid, rid) else {
+            return accept(self, Sends::Nothing);
+        };
+        self.response_counted(n, register, from, time, row, newer_of(best, pair))
     }
 
     // An ack that counts, of the pair `sent`.
@@ -282,17 +313,10 @@ impl Replica {
             return refuse(refusal, self);
         }
         let phase = self.phase;
-        match phase {
-            Phase::Idle => accept(self, Sends::Nothing),
-            Phase::Querying(_, _) => accept(self, Sends::Nothing),
-            Phase::Updating(row, sent) => {
-                if rid.0 == self.rid.0 {
-                    self.ack_counted(n, from, time, row, sent)
-                } else {
-                    accept(self, Sends::Nothing)
-                }
-            }
-        }
+        let Counts::For(row, sent) = counts_ack(phase, self.rid, rid) else {
+            return accept(self, Sends::Nothing);
+        };
+        self.ack_counted(n, from, time, row, sent)
     }
 
     pub fn crash(mut self) -> Answer
