@@ -7,8 +7,8 @@ use mathlib.Core.Option.{Option, none, some}
 use native.Mathlib.Omega.{arith}
 use borrow.Author.Tests.{eqb-true}
 use lib.Dec.{eqb}
-use Rattle.replica.specs.declared.words.Stamp.{Stamp}
-use Rattle.replica.specs.Stamps.{stampOf, startStamp, below}
+use Rattle.words.specs.declared.Stamp.{Stamp}
+use Rattle.words.specs.Stamps.{stampOf, startStamp, below}
 use Rattle.placing.specs.Operation.{Operation, Kind}
 use Rattle.placing.specs.Sequential.{Sequential, times, holds}
 use Rattle.placing.specs.OneOrder.{listing, point, orderKey, placed, oneOrder}

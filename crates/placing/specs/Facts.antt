@@ -5,7 +5,7 @@ use mathlib.Core.List.{List, List·Memᴰ}
 use mathlib.Core.Option.{none, some}
 use mathlib.Core.Logic.{_⊎_}
 use lib.Dec.{T}
-use Rattle.replica.specs.Stamps.{startStamp}
+use Rattle.words.specs.Stamps.{startStamp}
 use Rattle.placing.specs.Operation.{Operation, Kind, listed}
 use Rattle.placing.specs.OneOrder.{Entry, numbered, earlier}
 

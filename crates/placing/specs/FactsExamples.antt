@@ -6,7 +6,7 @@ use mathlib.Core.Option.{Option, none, some, Option·none-ne-some, Option·some-
 use mathlib.Core.Logic.{_⊎_, inl, inr}
 use native.Mathlib.Omega.{arith}
 use lib.Dec.{T}
-use Rattle.replica.specs.Stamps.{stampOf, startStamp, below}
+use Rattle.words.specs.Stamps.{stampOf, startStamp, below}
 use Rattle.placing.specs.Operation.{Operation, Kind, listed}
 use Rattle.placing.specs.Sequential.{Sequential}
 use Rattle.placing.specs.OneOrder.{Entry, numbered, earlier, point, orderKey, placed, oneOrder}

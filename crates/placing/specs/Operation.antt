@@ -2,7 +2,7 @@
 use Prim.Native.Nat.{ℕ}
 use mathlib.Core.Bool.{Bool, true, false, _||_}
 use mathlib.Core.Option.{Option, none, some}
-use Rattle.replica.specs.declared.words.Stamp.{Stamp}
+use Rattle.words.specs.declared.Stamp.{Stamp}
 
 pub data Kind : Type 0 where
   Read Write : Kind

@@ -6,7 +6,7 @@ use mathlib.Core.List.{List, [], _∷_, foldr, List·Memᴰ, List·Memᴰ·head,
 use borrow.Author.Tests.{eq-eqb}
 use lib.Dec.{T, eqb, eqb→eq, T-not, not-T}
 use mir.Facts.{and-yes, yes-and}
-use Rattle.replica.specs.declared.words.Stamp.{Stamp}
+use Rattle.words.specs.declared.Stamp.{Stamp}
 use Rattle.placing.specs.Sorting.{select, lexBelow}
 use Rattle.placing.specs.OneOrder.{Entry, greater, invocation, registerKey, earlier, upTo, point, orderKey}
 use Rattle.placing.specs.Order.{Strict, asymmetric}

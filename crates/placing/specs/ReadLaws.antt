@@ -10,8 +10,8 @@ use native.Mathlib.Omega.{arith}
 use borrow.Author.Tests.{eq-eqb}
 use lib.Dec.{T, eqb, eqb→eq, lit<}
 use mir.Facts.{and-yes}
-use Rattle.replica.specs.declared.words.Stamp.{Stamp}
-use Rattle.replica.specs.Stamps.{below, startStamp}
+use Rattle.words.specs.declared.Stamp.{Stamp}
+use Rattle.words.specs.Stamps.{below, startStamp}
 use Rattle.placing.specs.Operation.{Operation, Kind, isWrite, listed}
 use Rattle.placing.specs.Sequential.{wrote, holds}
 use Rattle.placing.specs.OneOrder.{Entry, listing, registerKey, earlier, placed}

@@ -7,8 +7,8 @@ use mathlib.Core.Logic.{_⊎_, inl, inr}
 use native.Mathlib.Omega.{arith}
 use native.Mathlib.Decide.{decLt}
 use lib.Dec.{T}
-use Rattle.replica.specs.declared.words.Stamp.{Stamp}
-use Rattle.replica.specs.Stamps.{stampOf, below}
+use Rattle.words.specs.declared.Stamp.{Stamp}
+use Rattle.words.specs.Stamps.{stampOf, below}
 use Rattle.placing.specs.Sorting.{lexBelow}
 use Rattle.placing.specs.OneOrder.{greater}
 use Rattle.placing.specs.Order.{Strict, Compared, asymmetric, weakly-transitive}

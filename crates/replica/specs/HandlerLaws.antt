@@ -5,12 +5,12 @@ use mathlib.Core.Bool.{Bool, true, false, cond, _&&_}
 use lib.Dec.{eqb}
 use lib.IntN.{ℤ}
 use borrow.Author.Tests.{eq-eqb, ne-eqb, eqb-false}
-use Rattle.replica.specs.declared.words.Answer.{Answer}
-use Rattle.replica.specs.declared.words.Pair.{Pair}
-use Rattle.replica.specs.declared.words.Pid.{Pid}
-use Rattle.replica.specs.declared.words.Replica.{Replica}
-use Rattle.replica.specs.declared.words.Rid.{Rid}
-use Rattle.replica.specs.declared.words.Time.{Time}
+use Rattle.replica.specs.declared.Answer.{Answer}
+use Rattle.words.specs.declared.Pair.{Pair}
+use Rattle.words.specs.declared.Pid.{Pid}
+use Rattle.replica.specs.declared.Replica.{Replica}
+use Rattle.words.specs.declared.Rid.{Rid}
+use Rattle.words.specs.declared.Time.{Time}
 use Rattle.replica.specs.Handlers.{
   unlessRefused,
   refused,
@@ -42,8 +42,9 @@ use Rattle.replica.specs.Handlers.{
   crashRule,
   crashed,
 }
-use Rattle.replica.specs.Ranges.{within, pairFits, replicaFits, senderFits}
-use Rattle.replica.specs.RangeLaws.{and-left, and-right}
+use Rattle.words.specs.Ranges.{within, pairFits, senderFits}
+use Rattle.replica.specs.Ranges.{replicaFits}
+use Rattle.words.specs.RangeLaws.{and-left, and-right}
 
 -- ---- a number that is 0 lets the rule through, another one refuses
 

@@ -6,28 +6,29 @@ use mathlib.Core.List.{List}
 use lib.Dec.{leb, eqb}
 use lib.IntN.{ℤ}
 use lib.ListN.{getD, set}
-use Rattle.replica.specs.declared.words.Time.{Time}
-use Rattle.replica.specs.declared.words.Rid.{Rid}
-use Rattle.replica.specs.declared.words.Pid.{Pid}
-use Rattle.replica.specs.declared.words.Stamp.{Stamp}
-use Rattle.replica.specs.declared.words.Pair.{Pair}
-use Rattle.replica.specs.declared.words.Body.{Body}
-use Rattle.replica.specs.declared.words.Body.the-variants.{Query, Response, Update, Ack}
-use Rattle.replica.specs.declared.words.Phase.{Phase}
-use Rattle.replica.specs.declared.words.Phase.the-variants.{Idle, Querying, Updating}
-use Rattle.replica.specs.declared.words.Replica.{Replica}
-use Rattle.replica.specs.declared.words.Letter.{Letter}
-use Rattle.replica.specs.declared.words.Sends.{Sends}
-use Rattle.replica.specs.declared.words.Sends.the-variants.{Nothing, Reply, Broadcast}
-use Rattle.replica.specs.declared.words.Ended.{Ended}
-use Rattle.replica.specs.declared.words.Ended.the-variants.{Pending, At}
-use Rattle.replica.specs.declared.words.Answer.{Answer}
-use Rattle.replica.specs.declared.handlers.Counts.{Counts}
-use Rattle.replica.specs.declared.handlers.Counts.the-variants.{Not, For}
+use Rattle.words.specs.declared.Time.{Time}
+use Rattle.words.specs.declared.Rid.{Rid}
+use Rattle.words.specs.declared.Pid.{Pid}
+use Rattle.words.specs.declared.Stamp.{Stamp}
+use Rattle.words.specs.declared.Pair.{Pair}
+use Rattle.words.specs.declared.Body.{Body}
+use Rattle.words.specs.declared.Body.the-variants.{Query, Response, Update, Ack}
+use Rattle.replica.specs.declared.Phase.{Phase}
+use Rattle.replica.specs.declared.Phase.the-variants.{Idle, Querying, Updating}
+use Rattle.replica.specs.declared.Replica.{Replica}
+use Rattle.replica.specs.declared.Letter.{Letter}
+use Rattle.replica.specs.declared.Sends.{Sends}
+use Rattle.replica.specs.declared.Sends.the-variants.{Nothing, Reply, Broadcast}
+use Rattle.replica.specs.declared.Ended.{Ended}
+use Rattle.replica.specs.declared.Ended.the-variants.{Pending, At}
+use Rattle.replica.specs.declared.Answer.{Answer}
+use Rattle.replica.specs.declared.Counts.{Counts}
+use Rattle.replica.specs.declared.Counts.the-variants.{Not, For}
 use Rattle.replica.specs.Clock.{after}
-use Rattle.replica.specs.Quorum.{joined, counted, majorityOf}
-use Rattle.replica.specs.Ranges.{within, pairFits, replicaFits, senderFits}
-use Rattle.replica.specs.Stamps.{stampOf, startPair, newer}
+use Rattle.words.specs.Quorum.{joined, counted, majorityOf}
+use Rattle.words.specs.Ranges.{within, pairFits, senderFits}
+use Rattle.replica.specs.Ranges.{replicaFits}
+use Rattle.words.specs.Stamps.{stampOf, startPair, newer}
 
 -- ---- what a handler answers
 
@@ -45,6 +46,12 @@ moved r clock rid phase repliers pairs =
 
 abbrev pub letter : ℕ → ℕ → Body → Letter
 letter time rid body = record { time = record { 0 = time }; rid = record { 0 = rid }; body = body }
+
+abbrev pub broadcastOf : ℕ → ℕ → Body → Sends
+broadcastOf time rid body = Broadcast (letter time rid body)
+
+abbrev pub replyOf : Pid → ℕ → ℕ → Body → Sends
+replyOf to time rid body = Reply to (letter time rid body)
 
 abbrev pub accepted : Replica → Sends → Ended → Answer
 accepted r sends ended = record { refusal = 0; replica = r; sends = sends; ended = ended }
@@ -64,7 +71,7 @@ unfoldable pub readRule : Replica → ℕ → ℕ → Answer
 readRule r x row =
     let clock = r .clock .0 + 1 in
     let rid = r .rid .0 + 1 in
-    accepted (moved r clock rid (Querying row startPair) (r .repliers) (r .pairs)) (Broadcast (letter clock rid (Query x))) Pending
+    accepted (moved r clock rid (Querying row startPair) (r .repliers) (r .pairs)) (broadcastOf clock rid (Query x)) Pending
 
 -- Write by p of v to x: clock + 1; stamp = (clock, p); request number + 1; broadcast update. The local copy does not change
 unfoldable pub writeRule : Replica → Pid → ℕ → ℤ → ℕ → Answer
@@ -72,13 +79,13 @@ writeRule r me x value row =
     let clock = r .clock .0 + 1 in
     let rid = r .rid .0 + 1 in
     let pair : Pair = record { stamp = stampOf clock (me .0); value = value } in
-    accepted (moved r clock rid (Updating row pair) (r .repliers) (r .pairs)) (Broadcast (letter clock rid (Update x pair))) Pending
+    accepted (moved r clock rid (Updating row pair) (r .repliers) (r .pairs)) (broadcastOf clock rid (Update x pair)) Pending
 
 -- A query is replied to with the stored pair. Replies bear the request's number and the new clock
 unfoldable pub queryRule : Replica → Pid → Time → Rid → ℕ → Answer
 queryRule r from time rid x =
     let clock = after (r .clock .0) (time .0) in
-    accepted (moved r clock (r .rid .0) (r .phase) (r .repliers) (r .pairs)) (Reply from (letter clock (rid .0) (Response (stored r x)))) Pending
+    accepted (moved r clock (r .rid .0) (r .phase) (r .repliers) (r .pairs)) (replyOf from clock (rid .0) (Response (stored r x))) Pending
 
 -- An update replaces the stored pair only if its stamp is greater, and is acked in either case
 unfoldable pub updateRule : Replica → Pid → Time → Rid → ℕ → Pair → Answer
@@ -86,7 +93,7 @@ updateRule r from time rid x pair =
     let clock = after (r .clock .0) (time .0) in
     accepted
     (moved r clock (r .rid .0) (r .phase) (r .repliers) (set (r .pairs) (x - 1) (newer (stored r x) pair)))
-    (Reply from (letter clock (rid .0) Ack))
+    (replyOf from clock (rid .0) Ack)
     Pending
 
 -- A response that counts. The one that makes a majority: the greatest pair counted is chosen, the set is emptied, request number + 1, update
@@ -98,7 +105,7 @@ responseCounted r n x from time row best =
     let repliers = joined (r .repliers) (from .0) in
     cond
     (leb (majorityOf n) (counted repliers))
-    (accepted (moved r clock rid (Updating row best) 0 (r .pairs)) (Broadcast (letter clock rid (Update x best))) Pending)
+    (accepted (moved r clock rid (Updating row best) 0 (r .pairs)) (broadcastOf clock rid (Update x best)) Pending)
     (accepted (moved r clock (r .rid .0) (Querying row best) repliers (r .pairs)) Nothing Pending)
 
 -- An ack that counts. The one that makes a majority: the set is emptied, request number + 1, the operation completes at this clock

@@ -2,9 +2,5 @@ pub mod Clock
 pub mod ClockLaws
 pub mod Handlers
 pub mod HandlerLaws
-pub mod Quorum
-pub mod QuorumLaws
 pub mod Ranges
 pub mod RangeLaws
-pub mod Stamps
-pub mod StampLaws

@@ -2,139 +2,41 @@
 // ranges is answered by 18, and the replica comes back as it was.
 ghost use mathlib.Core.Path.{_≡_};
 ghost use Prim.Native.Nat.{_≤_};
-ghost use Rattle.replica.specs.Handlers.{moved, accepted, refused, readBegun, writeBegun, queryReceived, updateReceived, responseReceived, ackReceived, crashed, responseCounted, ackCounted, responseCounts, ackCounts};
-ghost use Rattle.replica.specs.declared.words.Ended.the-variants.{Pending};
-ghost use Rattle.replica.specs.Stamps.{startPair};
+ghost use Rattle.replica.specs.Handlers.{readBegun, writeBegun, queryReceived, updateReceived, responseReceived, ackReceived};
+ghost use Rattle.replica.specs.Handlers.{crashed, responseCounted, ackCounted};
+use crate::Answer;
+use crate::Counts;
+use crate::Ended;
+use crate::Phase;
+use crate::Replica;
+use crate::Sends;
 use crate::clock::after_receiving;
-use crate::quorum;
+use crate::counting;
 use crate::refusals;
-use crate::stamps::newer_of;
+use crate::sending;
 use crate::store;
-use crate::words::Answer;
-use crate::words::Body;
-use crate::words::Ended;
-use crate::words::Letter;
-use crate::words::Pair;
-use crate::words::Phase;
-use crate::words::Pid;
-use crate::words::Replica;
-use crate::words::Rid;
-use crate::words::Sends;
-use crate::words::Stamp;
-use crate::words::Time;
-
-fn refuse(number: u8, replica: Replica) -> Answer
-    ensures { λ r. ⌜ r ≡ refused number replica ⌝ }
-{
-    Answer {
-        refusal: number,
-        replica: replica,
-        sends: Sends::Nothing,
-        ended: Ended::Pending,
-    }
-}
-
-fn accept(replica: Replica, sends: Sends) -> Answer
-    ensures { λ r. ⌜ r ≡ accepted replica sends Pending ⌝ }
-{
-    Answer {
-        refusal: 0,
-        replica: replica,
-        sends: sends,
-        ended: Ended::Pending,
-    }
-}
-
-fn start_pair() -> Pair
-    ensures { λ r. ⌜ r ≡ startPair ⌝ }
-{
-    Pair {
-        stamp: Stamp {
-            time: Time(0),
-            process: Pid(0),
-        },
-        value: 0,
-    }
-}
-
-// Whether a reply counts: not, or for this row, beside the pair that is kept for it.
-pub enum Counts {
-    Not,
-    For(u16, Pair),
-}
-
-fn counts_response(phase: Phase, own: Rid, rid: Rid) -> Counts
-    ensures { λ r. ⌜ r ≡ responseCounts phase own rid ⌝ }
-{
-    match phase {
-        Phase::Idle => Counts::Not,
-        Phase::Updating(_, _) => Counts::Not,
-        Phase::Querying(row, best) => {
-            if rid.0 == own.0 {
-                Counts::For(row, best)
-            } else {
-                Counts::Not
-            }
-        }
-    }
-}
-
-fn counts_ack(phase: Phase, own: Rid, rid: Rid) -> Counts
-    ensures { λ r. ⌜ r ≡ ackCounts phase own rid ⌝ }
-{
-    match phase {
-        Phase::Idle => Counts::Not,
-        Phase::Querying(_, _) => Counts::Not,
-        Phase::Updating(row, sent) => {
-            if rid.0 == own.0 {
-                Counts::For(row, sent)
-            } else {
-                Counts::Not
-            }
-        }
-    }
-}
+use words::Body;
+use words::Pair;
+use words::Pid;
+use words::Rid;
+use words::Stamp;
+use words::Time;
+use words::quorum;
+use words::stamps;
 
 impl Replica {
-    // The struct anew, since a field that is an enum is not stored to.
-    fn in_phase(self, phase: Phase, repliers: u8) -> Replica
-        ensures { λ r. ⌜ r ≡ moved self (self .clock .0) (self .rid .0) phase repliers (self .pairs) ⌝ }
-    {
-        let clock = self.clock;
-        let rid = self.rid;
-        let pairs = self.pairs;
-        Replica {
-            crashed: self.crashed,
-            clock: clock,
-            rid: rid,
-            phase: phase,
-            repliers: repliers,
-            pairs: pairs,
-        }
-    }
-
     pub fn begin_read(mut self, register: u8, row: u16) -> Answer
         ensures { λ r. ⌜ r ≡ readBegun self register row ⌝ }
     {
         let refusal = refusals::read_refusal(self, register, row);
         if refusal != 0 {
-            return refuse(refusal, self);
+            return sending::refuse(refusal, self);
         }
         let clock = Time(self.clock.0 + 1);
         let rid = Rid(self.rid.0 + 1);
-        self.clock = clock;
-        self.rid = rid;
-        let start = start_pair();
-        let next = self.in_phase(Phase::Querying(row, start), self.repliers);
-        let body = Body::Query(register);
-        accept(
-            next,
-            Sends::Broadcast(Letter {
-                time: clock,
-                rid: rid,
-                body: body,
-            }),
-        )
+        let start = store::start_pair();
+        self = store::move_to(self, clock, rid, Phase::Querying(row, start), self.repliers);
+        sending::accept(self, sending::broadcast(clock, rid, Body::Query(register)))
     }
 
     pub fn begin_write(mut self, me: Pid, register: u8, value: i64, row: u16) -> Answer
@@ -142,12 +44,10 @@ impl Replica {
     {
         let refusal = refusals::write_refusal(self, me, register, row);
         if refusal != 0 {
-            return refuse(refusal, self);
+            return sending::refuse(refusal, self);
         }
         let clock = Time(self.clock.0 + 1);
         let rid = Rid(self.rid.0 + 1);
-        self.clock = clock;
-        self.rid = rid;
         let pair = Pair {
             stamp: Stamp {
                 time: clock,
@@ -155,15 +55,10 @@ impl Replica {
             },
             value: value,
         };
-        let next = self.in_phase(Phase::Updating(row, pair), self.repliers);
-        let body = Body::Update(register, pair);
-        accept(
-            next,
-            Sends::Broadcast(Letter {
-                time: clock,
-                rid: rid,
-                body: body,
-            }),
+        self = store::move_to(self, clock, rid, Phase::Updating(row, pair), self.repliers);
+        sending::accept(
+            self,
+            sending::broadcast(clock, rid, Body::Update(register, pair)),
         )
     }
 
@@ -172,22 +67,12 @@ impl Replica {
     {
         let refusal = refusals::query_refusal(self, from, time, rid, register);
         if refusal != 0 {
-            return refuse(refusal, self);
+            return sending::refuse(refusal, self);
         }
+        let pair = store::pair_of(self, register);
         let clock = Time(after_receiving(self.clock.0, time.0));
         self.clock = clock;
-        let pair = store::pair_of(self, register);
-        accept(
-            self,
-            Sends::Reply(
-                from,
-                Letter {
-                    time: clock,
-                    rid: rid,
-                    body: Body::Response(pair),
-                },
-            ),
-        )
+        sending::accept(self, sending::reply(from, clock, rid, Body::Response(pair)))
     }
 
     pub fn update_received(
@@ -202,22 +87,12 @@ impl Replica {
     {
         let refusal = refusals::update_refusal(self, from, time, rid, register, pair);
         if refusal != 0 {
-            return refuse(refusal, self);
+            return sending::refuse(refusal, self);
         }
         let clock = Time(after_receiving(self.clock.0, time.0));
-        self.clock = clock;
-        let newest = newer_of(store::pair_of(self, register), pair);
-        accept(
-            store::with_pair(self, register, newest),
-            Sends::Reply(
-                from,
-                Letter {
-                    time: clock,
-                    rid: rid,
-                    body: Body::Ack,
-                },
-            ),
-        )
+        let newest = stamps::newer_of(store::pair_of(self, register), pair);
+        self = store::with_pair(self, clock, register, newest);
+        sending::accept(self, sending::reply(from, clock, rid, Body::Ack))
     }
 
     // A response that counts, while the pair `best` is the greatest with it.
@@ -234,26 +109,18 @@ impl Replica {
         ensures { λ r. ⌜ r ≡ responseCounted self n register from time row best ⌝ }
     {
         let clock = Time(after_receiving(self.clock.0, time.0));
-        self.clock = clock;
         let repliers = quorum::with(self.repliers, from.0);
         if quorum::is_majority(repliers, n) {
             let rid = Rid(self.rid.0 + 1);
-            self.rid = rid;
-            let next = self.in_phase(Phase::Updating(row, best), 0);
-            let body = Body::Update(register, best);
-            accept(
-                next,
-                Sends::Broadcast(Letter {
-                    time: clock,
-                    rid: rid,
-                    body: body,
-                }),
+            self = store::move_to(self, clock, rid, Phase::Updating(row, best), 0);
+            sending::accept(
+                self,
+                sending::broadcast(clock, rid, Body::Update(register, best)),
             )
         } else {
-            accept(
-                self.in_phase(Phase::Querying(row, best), repliers),
-                Sends::Nothing,
-            )
+            let rid = self.rid;
+            self = store::move_to(self, clock, rid, Phase::Querying(row, best), repliers);
+            sending::accept(self, Sends::Nothing)
         }
     }
 
@@ -270,13 +137,14 @@ impl Replica {
     {
         let refusal = refusals::response_refusal(self, n, register, from, time, rid, pair);
         if refusal != 0 {
-            return refuse(refusal, self);
+            return sending::refuse(refusal, self);
         }
         let phase = self.phase;
-        let Counts::For(row, best) = counts_response(phase, self.rid, rid) else {
-            return accept(self, Sends::Nothing);
+        let own = self.rid;
+        let Counts::For(row, best) = counting::counts_response(phase, own, rid) else {
+            return sending::accept(self, Sends::Nothing);
         };
-        self.response_counted(n, register, from, time, row, newer_of(best, pair))
+        self.response_counted(n, register, from, time, row, stamps::newer_of(best, pair))
     }
 
     // An ack that counts, of the pair `sent`.
@@ -285,23 +153,20 @@ impl Replica {
         ensures { λ r. ⌜ r ≡ ackCounted self n from time row sent ⌝ }
     {
         let clock = Time(after_receiving(self.clock.0, time.0));
-        self.clock = clock;
         let repliers = quorum::with(self.repliers, from.0);
         if quorum::is_majority(repliers, n) {
             let rid = Rid(self.rid.0 + 1);
-            self.rid = rid;
-            let next = self.in_phase(Phase::Idle, 0);
+            self = store::move_to(self, clock, rid, Phase::Idle, 0);
             Answer {
                 refusal: 0,
-                replica: next,
+                replica: self,
                 sends: Sends::Nothing,
                 ended: Ended::At(clock, sent),
             }
         } else {
-            accept(
-                self.in_phase(Phase::Updating(row, sent), repliers),
-                Sends::Nothing,
-            )
+            let rid = self.rid;
+            self = store::move_to(self, clock, rid, Phase::Updating(row, sent), repliers);
+            sending::accept(self, Sends::Nothing)
         }
     }
 
@@ -310,11 +175,12 @@ impl Replica {
     {
         let refusal = refusals::ack_refusal(self, n, from, time, rid);
         if refusal != 0 {
-            return refuse(refusal, self);
+            return sending::refuse(refusal, self);
         }
         let phase = self.phase;
-        let Counts::For(row, sent) = counts_ack(phase, self.rid, rid) else {
-            return accept(self, Sends::Nothing);
+        let own = self.rid;
+        let Counts::For(row, sent) = counting::counts_ack(phase, own, rid) else {
+            return sending::accept(self, Sends::Nothing);
         };
         self.ack_counted(n, from, time, row, sent)
     }
@@ -324,9 +190,9 @@ impl Replica {
     {
         let refusal = refusals::crash_refusal(self);
         if refusal != 0 {
-            return refuse(refusal, self);
+            return sending::refuse(refusal, self);
         }
         self.crashed = true;
-        accept(self, Sends::Nothing)
+        sending::accept(self, Sends::Nothing)
     }
 }

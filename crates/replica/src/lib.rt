@@ -1,10 +1,67 @@
-// One replica: the words of the method, its small rules (stamps, clock, replier set, majority, ranges), and the handlers of one process.
-// Everything goes by value, and every public function is total: it has no `requires`.
+// One replica: its state, and the handlers of one process. Everything goes by value, and every public function is total: it has no
+// `requires`.
+use words::Body;
+use words::Pair;
+use words::Pid;
+use words::Rid;
+use words::Time;
+
 mod clock;
+mod counting;
+pub mod fits;
 pub mod handlers;
-pub mod quorum;
-pub mod ranges;
 pub mod refusals;
-pub mod stamps;
+mod sending;
 mod store;
-pub mod words;
+
+// What a replica does: nothing; or it waits for replies on behalf of a row of the history. While querying it keeps the greatest pair
+// counted so far, while updating the pair that it sent.
+pub enum Phase {
+    Idle,
+    Querying(u16, Pair),
+    Updating(u16, Pair),
+}
+
+// A replica of which every number is 0 is up and idle. Register x is at place x - 1.
+pub struct Replica {
+    pub crashed: bool,
+    pub clock: Time,
+    pub rid: Rid,
+    pub phase: Phase,
+    pub repliers: u8,
+    pub pairs: [Pair; 16],
+}
+
+// What a sender puts into a message; its number and its two ends are the carrier's to add.
+pub struct Letter {
+    pub time: Time,
+    pub rid: Rid,
+    pub body: Body,
+}
+
+// What a handler sends: nothing, one reply, or one broadcast to all processes.
+pub enum Sends {
+    Nothing,
+    Reply(Pid, Letter),
+    Broadcast(Letter),
+}
+
+// Whether the operation ended: not yet, or at this response time with the chosen pair.
+pub enum Ended {
+    Pending,
+    At(Time, Pair),
+}
+
+// What a handler answers: a number of document 01 (0 is accepted), and what follows.
+pub struct Answer {
+    pub refusal: u8,
+    pub replica: Replica,
+    pub sends: Sends,
+    pub ended: Ended,
+}
+
+// Whether a reply counts: not, or for this row, beside the pair that is kept for it.
+pub enum Counts {
+    Not,
+    For(u16, Pair),
+}

@@ -15,21 +15,21 @@ ghost use Rattle.replica.specs.Handlers.{
   ackRefusal,
   crashRefusal,
 };
-use crate::ranges::EVENTS;
-use crate::ranges::PROCESSES;
-use crate::ranges::REGISTERS;
-use crate::ranges::is_within;
-use crate::ranges::pair_fits;
-use crate::ranges::replica_fits;
-use crate::ranges::row_fits;
-use crate::ranges::sender_fits;
+use crate::Phase;
+use crate::Replica;
+use crate::fits::replica_fits;
 use crate::store;
-use crate::words::Pair;
-use crate::words::Phase;
-use crate::words::Pid;
-use crate::words::Replica;
-use crate::words::Rid;
-use crate::words::Time;
+use words::Pair;
+use words::Pid;
+use words::Rid;
+use words::Time;
+use words::ranges::EVENTS;
+use words::ranges::PROCESSES;
+use words::ranges::REGISTERS;
+use words::ranges::is_within;
+use words::ranges::pair_fits;
+use words::ranges::row_fits;
+use words::ranges::sender_fits;
 
 const CRASHED: u8 = 10;
 

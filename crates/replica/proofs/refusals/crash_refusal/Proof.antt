@@ -4,7 +4,7 @@ use Rattle.replica.proofs.refusals.crash_refusal.Statement.{statement}
 use Rattle.replica.proofs.refusals.crash_refusal.Tie as tie
 use Rattle.replica.proofs.refusals.crash_refusal.Reads as reads
 use Rattle.replica.proofs.refusals.crash_refusal.Lts as lts
-use Rattle.replica.proofs.ranges.replica_fits.Reads as replica-fits-reads
+use Rattle.replica.proofs.fits.replica_fits.Reads as replica-fits-reads
 use Rattle.replica.proofs.refusals.down_refusal.Reads as down-refusal-reads
 
 -- src/refusals.rt:170:27

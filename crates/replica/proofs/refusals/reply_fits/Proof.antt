@@ -3,9 +3,9 @@ use Rattle.replica.proofs.refusals.reply_fits.Statement.{statement}
 use Rattle.replica.proofs.refusals.reply_fits.Tie as tie
 use Rattle.replica.proofs.refusals.reply_fits.Reads as reads
 use Rattle.replica.proofs.refusals.reply_fits.Lts as lts
-use Rattle.replica.proofs.ranges.is_within.Reads as is-within-reads
-use Rattle.replica.proofs.ranges.replica_fits.Reads as replica-fits-reads
-use Rattle.replica.proofs.ranges.sender_fits.Reads as sender-fits-reads
+use Rattle.words.proofs.ranges.is_within.Reads as is-within-reads
+use Rattle.replica.proofs.fits.replica_fits.Reads as replica-fits-reads
+use Rattle.words.proofs.ranges.sender_fits.Reads as sender-fits-reads
 
 -- src/refusals.rt:137:5
 replica-fits-requires : tie.Need-replica-fits-requires

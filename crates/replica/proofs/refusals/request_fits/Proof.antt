@@ -3,8 +3,8 @@ use Rattle.replica.proofs.refusals.request_fits.Statement.{statement}
 use Rattle.replica.proofs.refusals.request_fits.Tie as tie
 use Rattle.replica.proofs.refusals.request_fits.Reads as reads
 use Rattle.replica.proofs.refusals.request_fits.Lts as lts
-use Rattle.replica.proofs.ranges.replica_fits.Reads as replica-fits-reads
-use Rattle.replica.proofs.ranges.sender_fits.Reads as sender-fits-reads
+use Rattle.replica.proofs.fits.replica_fits.Reads as replica-fits-reads
+use Rattle.words.proofs.ranges.sender_fits.Reads as sender-fits-reads
 use Rattle.replica.proofs.refusals.stored_fits.Reads as stored-fits-reads
 
 -- src/refusals.rt:114:5

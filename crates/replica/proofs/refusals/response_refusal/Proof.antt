@@ -4,8 +4,8 @@ use Rattle.replica.proofs.refusals.response_refusal.Statement.{statemen
 use Rattle.replica.proofs.refusals.response_refusal.Tie as tie
 use Rattle.replica.proofs.refusals.response_refusal.Reads as reads
 use Rattle.replica.proofs.refusals.response_refusal.Lts as lts
-use Rattle.replica.proofs.ranges.is_within.Reads as is-within-reads
-use Rattle.replica.proofs.ranges.pair_fits.Reads as pair-fits-reads
+use Rattle.words.proofs.ranges.is_within.Reads as is-within-reads
+use Rattle.words.proofs.ranges.pair_fits.Reads as pair-fits-reads
 use Rattle.replica.proofs.refusals.down_refusal.Reads as down-refusal-reads
 use Rattle.replica.proofs.refusals.reply_fits.Reads as reply-fits-reads
 

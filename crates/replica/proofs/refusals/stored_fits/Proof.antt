@@ -1,13 +1,13 @@
-use Rattle.replica.specs.RangeLaws.{within-least, within-most, and-when, and-unless}
-use Rattle.replica.specs.Ranges.{pairFits}
+use Rattle.words.specs.RangeLaws.{within-least, within-most, and-when, and-unless}
+use Rattle.words.specs.Ranges.{pairFits}
 use mathlib.Core.Path.{sym, ap, _∙_}
 use borrow.Author.Needs.{needs}
 use Rattle.replica.proofs.refusals.stored_fits.Statement.{statement}
 use Rattle.replica.proofs.refusals.stored_fits.Tie as tie
 use Rattle.replica.proofs.refusals.stored_fits.Reads as reads
 use Rattle.replica.proofs.refusals.stored_fits.Lts as lts
-use Rattle.replica.proofs.ranges.is_within.Reads as is-within-reads
-use Rattle.replica.proofs.ranges.pair_fits.Reads as pair-fits-reads
+use Rattle.words.proofs.ranges.is_within.Reads as is-within-reads
+use Rattle.words.proofs.ranges.pair_fits.Reads as pair-fits-reads
 use Rattle.replica.proofs.store.pair_of.Reads as pair-of-reads
 
 -- src/refusals.rt:103:8

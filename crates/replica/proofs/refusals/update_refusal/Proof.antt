@@ -4,7 +4,7 @@ use Rattle.replica.proofs.refusals.update_refusal.Statement.{statement}
 use Rattle.replica.proofs.refusals.update_refusal.Tie as tie
 use Rattle.replica.proofs.refusals.update_refusal.Reads as reads
 use Rattle.replica.proofs.refusals.update_refusal.Lts as lts
-use Rattle.replica.proofs.ranges.pair_fits.Reads as pair-fits-reads
+use Rattle.words.proofs.ranges.pair_fits.Reads as pair-fits-reads
 use Rattle.replica.proofs.refusals.down_refusal.Reads as down-refusal-reads
 use Rattle.replica.proofs.refusals.request_fits.Reads as request-fits-reads
 

@@ -4,9 +4,9 @@ use Rattle.replica.proofs.refusals.write_refusal.Statement.{statement}
 use Rattle.replica.proofs.refusals.write_refusal.Tie as tie
 use Rattle.replica.proofs.refusals.write_refusal.Reads as reads
 use Rattle.replica.proofs.refusals.write_refusal.Lts as lts
-use Rattle.replica.proofs.ranges.is_within.Reads as is-within-reads
-use Rattle.replica.proofs.ranges.replica_fits.Reads as replica-fits-reads
-use Rattle.replica.proofs.ranges.row_fits.Reads as row-fits-reads
+use Rattle.words.proofs.ranges.is_within.Reads as is-within-reads
+use Rattle.replica.proofs.fits.replica_fits.Reads as replica-fits-reads
+use Rattle.words.proofs.ranges.row_fits.Reads as row-fits-reads
 use Rattle.replica.proofs.refusals.begin_refusal.Reads as begin-refusal-reads
 use Rattle.replica.proofs.refusals.is_idle.Reads as is-idle-reads
 

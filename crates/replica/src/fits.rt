@@ -1,0 +1,35 @@
+// What every handler works with, inside document 01's ranges.
+ghost use mathlib.Core.Path.{_≡_};
+ghost use Rattle.replica.specs.Ranges.{waitFits, phaseFits, replicaFits};
+use crate::Phase;
+use crate::Replica;
+use words::Pair;
+use words::ranges;
+
+// A row of the history, and the pair that is kept while it waits.
+fn wait_fits(row: u16, pair: Pair) -> bool
+    ensures { λ r. ⌜ r ≡ waitFits row pair ⌝ }
+{
+    ranges::row_fits(row) & ranges::pair_fits(pair, ranges::EVENTS, ranges::PROCESSES)
+}
+
+fn phase_fits(phase: Phase) -> bool
+    ensures { λ r. ⌜ r ≡ phaseFits phase ⌝ }
+{
+    match phase {
+        Phase::Idle => true,
+        Phase::Querying(row, best) => wait_fits(row, best),
+        Phase::Updating(row, sent) => wait_fits(row, sent),
+    }
+}
+
+// The numbers that every handler works with. Bit 0 of the replier set stands for no process.
+pub fn replica_fits(r: Replica) -> bool
+    ensures { λ b. ⌜ b ≡ replicaFits r ⌝ }
+{
+    let phase = r.phase;
+    (r.clock.0 <= ranges::EVENTS)
+        & (r.rid.0 <= ranges::REQUESTS)
+        & (r.repliers % 2 == 0)
+        & phase_fits(phase)
+}

@@ -1,0 +1,6 @@
+pub mod Quorum
+pub mod QuorumLaws
+pub mod Ranges
+pub mod RangeLaws
+pub mod Stamps
+pub mod StampLaws

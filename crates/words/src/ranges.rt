@@ -1,0 +1,62 @@
+// Document 01's ranges, of one number, stamp, pair or envelope.
+ghost use mathlib.Core.Path.{_≡_};
+ghost use Rattle.words.specs.Ranges.{within, isZero, stampFits, pairFits, senderFits};
+use crate::Pair;
+use crate::Pid;
+use crate::Rid;
+use crate::Stamp;
+use crate::Time;
+
+pub const EVENTS: u16 = 12000;
+
+pub const REQUESTS: u16 = 24000;
+
+pub const PROCESSES: u8 = 7;
+
+pub const REGISTERS: u8 = 16;
+
+pub const ROWS: u16 = 1024;
+
+// A number from 1 to `most`.
+pub fn is_within(x: u8, most: u8) -> bool
+    ensures { λ r. ⌜ r ≡ within x most ⌝ }
+{
+    (x != 0) & (x <= most)
+}
+
+pub fn row_fits(row: u16) -> bool
+    ensures { λ r. ⌜ r ≡ within row 1024 ⌝ }
+{
+    (row != 0) & (row <= ROWS)
+}
+
+// A time of at most `limit`; process 0 exactly when the time is 0, and otherwise 1 to `n`.
+pub fn stamp_fits(s: Stamp, limit: u16, n: u8) -> bool
+    ensures { λ r. ⌜ r ≡ stampFits limit n s ⌝ }
+{
+    let time = s.time.0;
+    let process = s.process.0;
+    (time <= limit) & ((time == 0) == (process == 0)) & (process <= n)
+}
+
+fn is_zero(value: i64) -> bool
+    ensures { λ r. ⌜ r ≡ isZero value ⌝ }
+{
+    value == 0
+}
+
+// A stamp that fits, and with the time 0 the value 0.
+pub fn pair_fits(p: Pair, limit: u16, n: u8) -> bool
+    ensures { λ r. ⌜ r ≡ pairFits limit n p ⌝ }
+{
+    let stamp = p.stamp;
+    let time = p.stamp.time.0;
+    stamp_fits(stamp, limit, n) & ((time != 0) | is_zero(p.value))
+}
+
+// The envelope of a message that was received.
+pub fn sender_fits(from: Pid, time: Time, rid: Rid) -> bool
+    ensures { λ r. ⌜ r ≡ senderFits from time rid ⌝ }
+{
+    is_within(from.0, PROCESSES) & (time.0 <= EVENTS) & (rid.0 <= REQUESTS)
+}
