@@ -1,4 +1,4 @@
--- Small histories, by computation: what the one order makes of them, and that `Sequential` accepts and refuses.
+-- Small histories, by computation: what the one order makes of them, and what `Sequential` refuses (`FactsExamples` has what it accepts).
 use Prim.Native.Nat.{ℕ, zero, suc, _<_}
 use mathlib.Core.Path.{_≡_, refl, ap}
 use mathlib.Core.List.{List, [], _∷_, _++_}
@@ -47,6 +47,16 @@ twoRegisters =
 two-registers-order : oneOrder twoRegisters ≡ 2 ∷ (1 ∷ (4 ∷ (3 ∷ [])))
 unfolding oneOrder placed orderKey point below
 two-registers-order = refl
+
+-- reads of one stamp go by invocation stamp, whatever their row numbers; a pending read is not listed
+reads-order : oneOrder (readRow 1 1 5 (some 8) startStamp 0 ∷ (readRow 2 1 3 (some 9) startStamp 0 ∷ (readRow 3 1 1 none startStamp 0 ∷ []))) ≡ 2 ∷ (1 ∷ [])
+unfolding oneOrder placed orderKey point below
+reads-order = refl
+
+-- a tie that no run reaches, one invocation stamp in two registers: the lesser register is first
+tied-order : oneOrder (readRow 1 2 1 (some 4) startStamp 0 ∷ (readRow 1 1 1 (some 4) startStamp 0 ∷ [])) ≡ 2 ∷ (1 ∷ [])
+unfolding oneOrder placed orderKey point below
+tied-order = refl
 
 -- a read of what nobody wrote: no order of it is sequential, because the read stands in it and its register never holds anything but zero
 abbrev unwritten : List (Operation ℕ)

@@ -3,14 +3,14 @@ use Prim.Native.Nat.{ℕ, _<_, _≤_}
 use mathlib.Core.Path.{_≡_, refl, sym, subst}
 use mathlib.Core.List.{List, [], _∷_, List·Memᴰ, List·Memᴰ·head, List·Memᴰ·tail, List·Memᴰ·not-nil}
 use mathlib.Core.Option.{Option, none, some, Option·none-ne-some, Option·some-injective}
-use mathlib.Core.Logic.{_⊎_, inl, inr}
+use mathlib.Core.Logic.{inl, inr}
 use native.Mathlib.Omega.{arith}
 use lib.Dec.{T}
-use Rattle.words.specs.Stamps.{stampOf, startStamp, below}
+use Rattle.words.specs.Stamps.{stampOf, below}
 use Rattle.placing.specs.Operation.{Operation, Kind, listed}
 use Rattle.placing.specs.Sequential.{Sequential}
 use Rattle.placing.specs.OneOrder.{Entry, numbered, earlier, point, orderKey, placed, oneOrder}
-use Rattle.placing.specs.Facts.{Facts, Row}
+use Rattle.placing.specs.Facts.{Facts, Sourced}
 use Rattle.placing.specs.Placing.{placing}
 use Rattle.placing.specs.Examples.{readRow, writeRow, pendingWrite, pending-order}
 
@@ -41,9 +41,6 @@ answer {s} {t} q = Option·some-injective s t q
 
 -- the facts of a history, one row or two rows at a time
 module _ (os : List (Operation ℕ)) where
-  abbrev Lasts : ℕ → Entry ℕ → Type 0
-  Lasts t a = a .operation .answered ≡ some t → a .operation .invoked < t
-
   abbrev Settled : ℕ → Entry ℕ → Entry ℕ → Type 0
   Settled t a b = a .operation .answered ≡ some t → t ≤ b .operation .invoked → T (earlier a b)
 
@@ -56,33 +53,28 @@ module _ (os : List (Operation ℕ)) where
   abbrev Apart : Entry ℕ → Entry ℕ → Type 0
   Apart a b = a .operation .kind ≡ Kind.Write → b .operation .kind ≡ Kind.Write → a .row ≡ b .row
 
-  abbrev Sourced : Entry ℕ → Type 0
-  Sourced a = a .operation .kind ≡ Kind.Read
-      → ((a .operation .stamp ≡ startStamp) × (a .operation .value ≡ 0))
-      ⊎ ((w : Entry ℕ) × Row os w × (w .operation .kind ≡ Kind.Write) × (w .operation .register ≡ a .operation .register) × (w .operation .stamp ≡ a .operation .stamp) × (w .operation .value ≡ a .operation .value))
+  abbrev ReadSourced : Entry ℕ → Type 0
+  ReadSourced a = a .operation .kind ≡ Kind.Read → Sourced 0 os a
 
-  facts-of : ((t : ℕ) → Each (Lasts t) (numbered 1 os))
-      → ((t : ℕ) → Each (λ a. Each (Settled t a) (numbered 1 os)) (numbered 1 os))
+  facts-of : ((t : ℕ) → Each (λ a. Each (Settled t a) (numbered 1 os)) (numbered 1 os))
       → Each (λ a. Each (InTurn a) (numbered 1 os)) (numbered 1 os)
       → Each Stamped (numbered 1 os)
       → Each (λ a. Each (Apart a) (numbered 1 os)) (numbered 1 os)
-      → Each Sourced (numbered 1 os)
+      → Each ReadSourced (numbered 1 os)
       → Facts 0 os
-  facts-of l s i m p r =
+  facts-of s i m p r =
       record {
-        lasts = λ a t. each (Lasts t) (numbered 1 os) (l t) a;
         settled = λ a b t x y listed same. each-two (Settled t) (numbered 1 os) (s t) a b x y;
         inTurn = each-two InTurn (numbered 1 os) i;
         stamped = each Stamped (numbered 1 os) m;
         apart = λ a b x y k j same stamps. each-two Apart (numbered 1 os) p a b x y k j;
-        sourced = λ a t x k q. each Sourced (numbered 1 os) r a x k;
+        sourced = λ a t x k q. each ReadSourced (numbered 1 os) r a x k;
       }
 
 -- P11, the pending write and the read that did not see it
 pending-facts : Facts 0 pendingWrite
 pending-facts =
     facts-of pendingWrite
-    (λ t. (unanswered, (λ q. omega (arith, answer q), tt)))
     (λ t. ((λ q h. unanswered q, (λ q h. unanswered q, tt)), ((λ q h. tt, (λ q h. omega (arith, answer q), tt)), tt)))
     ((λ q h. absurd (omega arith), (λ q h. absurd (omega arith), tt)), ((λ q h. absurd (omega arith), (λ q h. absurd (omega arith), tt)), tt))
     (λ k z. omega arith, (λ k z. kinds k, tt))
@@ -99,7 +91,6 @@ seenWrite = writeRow 1 1 1 (some 4) (stampOf 1 1) 9 ∷ (readRow 2 1 5 (some 8) 
 seen-facts : Facts 0 seenWrite
 seen-facts =
     facts-of seenWrite
-    (λ t. (λ q. omega (arith, answer q), (λ q. omega (arith, answer q), tt)))
     (λ t. ((λ q h. omega (arith, answer q), (λ q h. tt, tt)), ((λ q h. omega (arith, answer q), (λ q h. omega (arith, answer q), tt)), tt)))
     ((λ q h. absurd (omega arith), (λ q h. absurd (omega arith), tt)), ((λ q h. absurd (omega arith), (λ q h. absurd (omega arith), tt)), tt))
     (λ k z. omega arith, (λ k z. kinds k, tt))

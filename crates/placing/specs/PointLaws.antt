@@ -7,20 +7,23 @@ use borrow.Author.Tests.{eq-eqb}
 use lib.Dec.{T, eqb, eqb→eq, T-not, not-T}
 use mir.Facts.{and-yes, yes-and}
 use Rattle.words.specs.declared.Stamp.{Stamp}
+use Rattle.words.specs.StampLaws.{AtMost, atMost-reflexive, atMost-transitive}
 use Rattle.placing.specs.Sorting.{select, lexBelow}
 use Rattle.placing.specs.OneOrder.{Entry, greater, invocation, registerKey, earlier, upTo, point, orderKey}
 use Rattle.placing.specs.Order.{Strict, asymmetric}
 use Rattle.placing.specs.LexLaws.{lex-same, by-key}
 use Rattle.placing.specs.Pairs.{select-member, member-select}
-use Rattle.placing.specs.StampLaws.{AtMost, led-at-most, at-most-self, at-most-passed, greater-is, greater-left, greater-right}
+use Rattle.placing.specs.StampKeys.{led-at-most, greater-is, greater-left, greater-right}
 
 module _ {Value : Type 0} where
   pub earlier-strict : Strict (earlier {Value = Value})
   earlier-strict = by-key registerKey
 
   -- b stands up to a: the test and what it says
-  pub up-to : (a b : Entry Value) → a .operation .register ≡ b .operation .register → (T (earlier a b) → ⊥) → T (upTo a b)
-  up-to a b e f = yes-and (eqb (a .operation .register) (b .operation .register)) (not (earlier a b)) (rw (eq-eqb (a .operation .register) (b .operation .register) e) tt) (not-T (earlier a b) f)
+  up-to : (a b : Entry Value) → a .operation .register ≡ b .operation .register → (T (earlier a b) → ⊥) → T (upTo a b)
+  up-to a b e f =
+      yes-and (eqb (a .operation .register) (b .operation .register)) (not (earlier a b))
+      (rw (eq-eqb (a .operation .register) (b .operation .register) e) tt) (not-T (earlier a b) f)
 
   pub up-to-says : (a b : Entry Value) → T (upTo a b) → (a .operation .register ≡ b .operation .register) × (T (earlier a b) → ⊥)
   up-to-says a b t =
@@ -31,23 +34,31 @@ module _ {Value : Type 0} where
   top : Stamp → List (Entry Value) → Stamp
   top s l = foldr (λ b t. greater (invocation (b .operation)) t) s l
 
+  top-start : (s : Stamp) (l : List (Entry Value)) → AtMost s (top s l)
+  unfolding top
+  top-start s [] = atMost-reflexive s
+  top-start s (b ∷ l) =
+      atMost-transitive s (top s l) (top s (b ∷ l)) (top-start s l) (greater-right (invocation (b .operation)) (top s l))
+
+  top-member : (s : Stamp) {b : Entry Value} {l : List (Entry Value)} → List·Memᴰ b l → AtMost (invocation (b .operation)) (top s l)
+  unfolding top
+  top-member s {b} (List·Memᴰ·head {x = c} {xs = l} e) = rw e (greater-left (invocation (c .operation)) (top s l))
+  top-member s {b} (List·Memᴰ·tail {x = c} {xs = l} m) =
+      atMost-transitive (invocation (b .operation)) (top s l) (top s (c ∷ l)) (top-member s m) (greater-right (invocation (c .operation)) (top s l))
+
   top-is : (P : Stamp → Type 0) (s : Stamp) (l : List (Entry Value)) → P s → ((b : Entry Value) → List·Memᴰ b l → P (invocation (b .operation))) → P (top s l)
   unfolding top
   top-is P s [] p f = p
   top-is P s (b ∷ l) p f =
       greater-is P (invocation (b .operation)) (top s l) (f b (List·Memᴰ·head refl)) (top-is P s l p (λ c m. f c (List·Memᴰ·tail m)))
 
-  top-start : (s : Stamp) (l : List (Entry Value)) → AtMost s (top s l)
-  unfolding top
-  top-start s [] = at-most-self s
-  top-start s (b ∷ l) =
-      at-most-passed s (top s l) (top s (b ∷ l)) (top-start s l) (greater-right (invocation (b .operation)) (top s l))
+  point-up-to : (es : List (Entry Value)) (e b : Entry Value) → List·Memᴰ b es → T (upTo e b) → AtMost (invocation (b .operation)) (point es e)
+  unfolding point top
+  point-up-to es e b m t = top-member (invocation (e .operation)) (member-select (upTo e) m t)
 
-  top-member : (s : Stamp) {b : Entry Value} {l : List (Entry Value)} → List·Memᴰ b l → AtMost (invocation (b .operation)) (top s l)
-  unfolding top
-  top-member s {b} (List·Memᴰ·head {x = c} {xs = l} e) = rw e (greater-left (invocation (c .operation)) (top s l))
-  top-member s {b} (List·Memᴰ·tail {x = c} {xs = l} m) =
-      at-most-passed (invocation (b .operation)) (top s l) (top s (c ∷ l)) (top-member s m) (greater-right (invocation (c .operation)) (top s l))
+  pub point-own : (es : List (Entry Value)) (e : Entry Value) → AtMost (invocation (e .operation)) (point es e)
+  unfolding point top
+  point-own es e = top-start (invocation (e .operation)) (select (upTo e) es)
 
   pub point-is : (P : Stamp → Type 0) (es : List (Entry Value)) (e : Entry Value)
       → P (invocation (e .operation))
@@ -56,16 +67,8 @@ module _ {Value : Type 0} where
   unfolding point top
   point-is P es e p f = top-is P (invocation (e .operation)) (select (upTo e) es) p (λ b m. let s = select-member (upTo e) es m in f b (s .0) (s .1))
 
-  pub point-own : (es : List (Entry Value)) (e : Entry Value) → AtMost (invocation (e .operation)) (point es e)
-  unfolding point top
-  point-own es e = top-start (invocation (e .operation)) (select (upTo e) es)
-
-  pub point-up-to : (es : List (Entry Value)) (e b : Entry Value) → List·Memᴰ b es → T (upTo e b) → AtMost (invocation (b .operation)) (point es e)
-  unfolding point top
-  point-up-to es e b m t = top-member (invocation (e .operation)) (member-select (upTo e) m t)
-
   -- along a register's order points never fall
-  pub point-rises : (es : List (Entry Value)) (a b : Entry Value) → List·Memᴰ a es
+  point-rises : (es : List (Entry Value)) (a b : Entry Value) → List·Memᴰ a es
       → a .operation .register ≡ b .operation .register
       → T (earlier a b)
       → AtMost (point es a) (point es b)

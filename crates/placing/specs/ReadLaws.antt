@@ -5,23 +5,24 @@ use mathlib.Core.Path.{_≡_, refl, ap, sym, _∙_}
 use mathlib.Core.Bool.{Bool, true, false, cond, _&&_, or-true}
 use mathlib.Core.List.{List, [], _∷_, _++_, map, tail, List·Memᴰ, List·Memᴰ·head, List·Memᴰ·tail, Memᴰ·append-left, Memᴰ·append-right}
 use mathlib.Core.Option.{Option, none, some}
-use mathlib.Core.Logic.{_⊎_, inl, inr}
+use mathlib.Core.Logic.{inl, inr}
 use native.Mathlib.Omega.{arith}
 use borrow.Author.Tests.{eq-eqb}
-use lib.Dec.{T, eqb, eqb→eq, lit<}
+use lib.Dec.{T, eqb, eqb→eq, not-T, lit<}
 use mir.Facts.{and-yes}
 use Rattle.words.specs.declared.Stamp.{Stamp}
 use Rattle.words.specs.Stamps.{below, startStamp}
+use Rattle.words.specs.StampLaws.{AtMost, atMost-time, atMost-antisymmetric}
 use Rattle.placing.specs.Operation.{Operation, Kind, isWrite, listed}
 use Rattle.placing.specs.Sequential.{wrote, holds}
 use Rattle.placing.specs.OneOrder.{Entry, listing, registerKey, earlier, placed}
-use Rattle.placing.specs.Facts.{Facts, Row}
+use Rattle.placing.specs.Facts.{Facts, Row, Sourced}
 use Rattle.placing.specs.Order.{asymmetric}
 use Rattle.placing.specs.LexLaws.{lex-less}
 use Rattle.placing.specs.Pairs.{pairs-append}
 use Rattle.placing.specs.Splitting.{member-split, split-member}
 use Rattle.placing.specs.SortingLaws.{Sorted, in-front}
-use Rattle.placing.specs.StampLaws.{AtMost, at-most-time, at-most-both, led-below, led-same}
+use Rattle.placing.specs.StampKeys.{led-below, led-same}
 use Rattle.placing.specs.RowLaws.{row-at, row-equal}
 use Rattle.placing.specs.PointLaws.{register-kept}
 use Rattle.placing.specs.PlacedLaws.{precedes, precedes-strict, placed-sorted, listing-member, placed-member, placed-row}
@@ -90,16 +91,24 @@ module _ {Value : Type 0} where
   stamp-earlier : (a b : Entry Value) → T (below (a .operation .stamp) (b .operation .stamp)) → T (earlier a b)
   stamp-earlier a b h = led-below (a .operation .stamp) (b .operation .stamp) (tail (tail (registerKey a))) (tail (tail (registerKey b))) h
 
-  write-earlier : (a b : Entry Value) → a .operation .kind ≡ Kind.Write → b .operation .kind ≡ Kind.Read → a .operation .stamp ≡ b .operation .stamp → T (earlier a b)
+  write-earlier : (a b : Entry Value)
+      → a .operation .kind ≡ Kind.Write
+      → b .operation .kind ≡ Kind.Read
+      → a .operation .stamp ≡ b .operation .stamp
+      → T (earlier a b)
   write-earlier a b k r q =
       let first : cond (isWrite (a .operation .kind)) 0 1 < cond (isWrite (b .operation .kind)) 0 1 = rw (k, r) (lit< tt) in
       led-same (a .operation .stamp) (b .operation .stamp) (tail (tail (registerKey a))) (tail (tail (registerKey b))) q
-      (lex-less (cond (isWrite (a .operation .kind)) 0 1) (cond (isWrite (b .operation .kind)) 0 1) (tail (tail (tail (registerKey a)))) (tail (tail (tail (registerKey b)))) first)
+      (lex-less _ _ (tail (tail (tail (registerKey a)))) (tail (tail (tail (registerKey b)))) first)
 
   -- of one register, stamps never fall along the one order
-  stamps-rise : (os : List (Operation Value)) (a b : Entry Value) → Row os b × T (listed (b .operation)) → a .operation .register ≡ b .operation .register → T (precedes os a b)
+  stamps-rise : (os : List (Operation Value)) (a b : Entry Value) → Row os b × T (listed (b .operation))
+      → a .operation .register ≡ b .operation .register
+      → T (precedes os a b)
       → AtMost (a .operation .stamp) (b .operation .stamp)
-  stamps-rise os a b m q p = λ h. asymmetric (precedes-strict os) a b p (register-kept (listing os) b a (listing-member os b (m .0) (m .1)) (sym q) (stamp-earlier b a h))
+  stamps-rise os a b m q p =
+      not-T (below (b .operation .stamp) (a .operation .stamp))
+      (λ h. asymmetric (precedes-strict os) a b p (register-kept (listing os) b a (listing-member os b (m .0) (m .1)) (sym q) (stamp-earlier b a h)))
 
 module _ {Value : Type 0} (nought : Value) (os : List (Operation Value)) (facts : Facts nought os) where
   -- the value of a read that stands behind front in the one order
@@ -123,7 +132,7 @@ module _ {Value : Type 0} (nought : Value) (os : List (Operation Value)) (facts 
     no-write-before : r .operation .stamp ≡ startStamp → (b : Entry Value) → List·Memᴰ b front → T (writes (r .operation .register) b) → ⊥
     no-write-before q b m t =
         let s = writes-says (r .operation .register) b t in
-        let l = at-most-time (b .operation .stamp) (r .operation .stamp) (front-stamp b m (s .1)) in
+        let l = atMost-time (b .operation .stamp) (r .operation .stamp) (front-stamp b m (s .1)) in
         let z : r .operation .stamp .time .0 ≡ 0 = ap (λ (u : Stamp). u .time .0) q in
         facts .stamped b (front-row b m .0) (s .0) (omega arith)
 
@@ -142,7 +151,7 @@ module _ {Value : Type 0} (nought : Value) (os : List (Operation Value)) (facts 
         let wb : T (precedes os w b) = pairs-append (λ c d. T (precedes os c d)) before (w ∷ between) (rw cut at sortedFront) .1 .0 b m in
         let up = stamps-rise os w b rb (qw ∙ sym (s .1)) wb in
         let down : AtMost (b .operation .stamp) (w .operation .stamp) = rw sw (front-stamp b mb (s .1)) in
-        let e = at-most-both (w .operation .stamp) (b .operation .stamp) up down in
+        let e = atMost-antisymmetric (w .operation .stamp) (b .operation .stamp) up down in
         let q : w ≡ b = row-equal os w b mw (rb .0) (facts .apart w b mw (rb .0) kw (s .0) (qw ∙ sym (s .1)) e) in
         precedes-strict os .irreflexive b (rw q at wb)
 
@@ -163,8 +172,6 @@ module _ {Value : Type 0} (nought : Value) (os : List (Operation Value)) (facts 
         let a = read-answered (r .operation) (read-row .1) k in
         tell (facts .sourced r (a .0) (read-row .0) k (a .1)) ∙ sym (holds-after os (r .operation .register) nought front (λ b m. front-row b m .0))
       where
-        tell : ((r .operation .stamp ≡ startStamp) × (r .operation .value ≡ nought))
-            ⊎ ((w : Entry Value) × Row os w × (w .operation .kind ≡ Kind.Write) × (w .operation .register ≡ r .operation .register) × (w .operation .stamp ≡ r .operation .stamp) × (w .operation .value ≡ r .operation .value))
-            → r .operation .value ≡ after (r .operation .register) nought front
+        tell : Sourced nought os r → r .operation .value ≡ after (r .operation .register) nought front
         tell (inl s) = s .1 ∙ sym (after-none (r .operation .register) nought front (no-write-before (s .0)))
         tell (inr s) = sym (s .5) ∙ sym (written (s .0) (s .1) (s .2) k (s .3) (s .4))

@@ -122,3 +122,41 @@ response-inside r n x from time rid pair e =
 pub ack-inside : (r : Replica) (n : ℕ) (from : Pid) (time : Time) (rid : Rid) → ackRefusal r n from time rid ≡ 0 → ReplyInside r from time rid
 unfolding ackRefusal
 ack-inside r n from time rid e = reply-inside r n from time rid (down-inside _ _ _ e)
+
+-- ---- inside the ranges, of a replica that is up (and idle, for an invocation), a handler is its plain rule. The layer above cites these
+
+begin-accepts : (fits crashed idle : Bool) → fits ≡ true → crashed ≡ false → idle ≡ true → beginRefusal fits crashed idle ≡ 0
+unfolding beginRefusal
+begin-accepts fits crashed idle e f g = simp (e, f, g)
+
+down-accepts : (number : ℕ) (fits crashed : Bool) → fits ≡ true → crashed ≡ false → downRefusal number fits crashed ≡ 0
+unfolding downRefusal
+down-accepts number fits crashed e f = simp (e, f)
+
+pub read-is-rule : (r : Replica) (x row : ℕ) → (replicaFits r && within x 16 && within row 1024) ≡ true → r .crashed ≡ false → isIdle (r .phase) ≡ true → readBegun r x row ≡ readRule r x row
+unfolding readBegun readRefusal
+read-is-rule r x row e f g = sym (rule-by _ _ r _ refl (begin-accepts _ _ _ e f g))
+
+pub write-is-rule : (r : Replica) (me : Pid) (x : ℕ) (value : ℤ) (row : ℕ) → (replicaFits r && within (me .0) 7 && within x 16 && within row 1024) ≡ true → r .crashed ≡ false → isIdle (r .phase) ≡ true → writeBegun r me x value row ≡ writeRule r me x value row
+unfolding writeBegun writeRefusal
+write-is-rule r me x value row e f g = sym (rule-by _ _ r _ refl (begin-accepts _ _ _ e f g))
+
+pub query-is-rule : (r : Replica) (from : Pid) (time : Time) (rid : Rid) (x : ℕ) → requestFits r from time rid x ≡ true → r .crashed ≡ false → queryReceived r from time rid x ≡ queryRule r from time rid x
+unfolding queryReceived queryRefusal
+query-is-rule r from time rid x e f = sym (rule-by _ _ r _ refl (down-accepts 13 _ _ e f))
+
+pub update-is-rule : (r : Replica) (from : Pid) (time : Time) (rid : Rid) (x : ℕ) (pair : Pair) → (requestFits r from time rid x && pairFits 12000 7 pair) ≡ true → r .crashed ≡ false → updateReceived r from time rid x pair ≡ updateRule r from time rid x pair
+unfolding updateReceived updateRefusal
+update-is-rule r from time rid x pair e f = sym (rule-by _ _ r _ refl (down-accepts 13 _ _ e f))
+
+pub response-is-rule : (r : Replica) (n x : ℕ) (from : Pid) (time : Time) (rid : Rid) (pair : Pair) → (replyFits r n from time rid && within x 16 && pairFits 12000 7 pair) ≡ true → r .crashed ≡ false → responseReceived r n x from time rid pair ≡ responseRule r n x from time rid pair
+unfolding responseReceived responseRefusal
+response-is-rule r n x from time rid pair e f = sym (rule-by _ _ r _ refl (down-accepts 13 _ _ e f))
+
+pub ack-is-rule : (r : Replica) (n : ℕ) (from : Pid) (time : Time) (rid : Rid) → replyFits r n from time rid ≡ true → r .crashed ≡ false → ackReceived r n from time rid ≡ ackRule r n from time rid
+unfolding ackReceived ackRefusal
+ack-is-rule r n from time rid e f = sym (rule-by _ _ r _ refl (down-accepts 13 _ _ e f))
+
+pub crash-is-rule : (r : Replica) → replicaFits r ≡ true → r .crashed ≡ false → crashed r ≡ crashRule r
+unfolding crashed crashRefusal
+crash-is-rule r e f = sym (rule-by _ _ r _ refl (down-accepts 10 _ _ e f))

@@ -8,9 +8,9 @@ use words::Time;
 
 mod clock;
 mod counting;
-pub mod fits;
+mod fits;
 pub mod handlers;
-pub mod refusals;
+mod refusals;
 mod sending;
 mod store;
 

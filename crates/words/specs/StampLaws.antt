@@ -2,7 +2,7 @@
 use Prim.Native.Nat.{ℕ, _≤_, _<_}
 use mathlib.Core.Bool.{Bool, true, false, not, cond, _&&_, _||_, or-true}
 use mathlib.Core.Logic.{_⊎_, inl, inr}
-use mathlib.Core.Path.{_≡_, refl, sym}
+use mathlib.Core.Path.{_≡_, refl, ap, sym}
 use native.Mathlib.Decide.{decLt}
 use native.Mathlib.Omega.{arith}
 use lib.Dec.{T, T-not, not-T, ltb, eqb, ltb→lt, eqb→eq}
@@ -22,7 +22,7 @@ read-test true y z h = inl tt
 read-test false true z h = inr (tt, h)
 read-test false false z h = absurd h
 
-below-read : (a b : Stamp) → T (below a b) → Earlier a b
+pub below-read : (a b : Stamp) → T (below a b) → Earlier a b
 unfolding below
 below-read a b h =
     elim (read-test (ltb (a .time .0) (b .time .0)) (eqb (a .time .0) (b .time .0)) (ltb (a .process .0) (b .process .0)) h) [
@@ -58,7 +58,7 @@ below-transitive a b c h l = go (below-read a b h) (below-read b c l)
 pub below-asymmetric : (a b : Stamp) → T (below a b) → T (below b a) → ⊥
 below-asymmetric a b h l = below-irreflexive a (below-transitive a b a h l)
 
-three-ways : (m n : ℕ) → (m < n) ⊎ ((m ≡ n) ⊎ (n < m))
+pub three-ways : (m n : ℕ) → (m < n) ⊎ ((m ≡ n) ⊎ (n < m))
 three-ways m n =
     elim (decLt m n) [
       | yes p ↦ inl p
@@ -114,6 +114,9 @@ atMost-transitive a b c h l = not-T (below c a) (λ t. T-not (below c b) l (belo
 
 pub atMost-antisymmetric : (a b : Stamp) → AtMost a b → AtMost b a → a ≡ b
 atMost-antisymmetric a b h l = elim (atMost-cases a b h) [ inl p ↦ absurd (T-not (below a b) l p) | inr e ↦ e ]
+
+pub atMost-time : (a b : Stamp) → AtMost a b → a .time .0 ≤ b .time .0
+atMost-time a b h = elim (atMost-cases a b h) [ inl p ↦ below-time⁻ a b p | inr e ↦ omega (arith, ap (λ (s : Stamp). s .time .0) e) ]
 
 pub atMost-total : (a b : Stamp) → AtMost a b ⊎ AtMost b a
 atMost-total a b = elim (below-or a b) [ inl p ↦ inl (below→atMost a b p) | inr q ↦ inr q ]

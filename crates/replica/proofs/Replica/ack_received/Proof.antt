@@ -1,3 +1,4 @@
+-- `replica::Replica::ack_received` meets its contract.
 use Rattle.words.specs.RangeLaws.{sender-time}
 use Rattle.replica.specs.RangeLaws.{fits-clock, fits-rid}
 use Rattle.replica.specs.Handlers.{ackReceived, ackRule, ackTaken}
@@ -6,58 +7,41 @@ use mathlib.Core.Path.{_≡_, sym, ap, _∙_}
 use borrow.Author.Needs.{needs}
 use Rattle.replica.proofs.Replica.ack_received.Statement.{statement}
 use Rattle.replica.proofs.Replica.ack_received.Tie as tie
-use Rattle.replica.proofs.Replica.ack_received.Reads as reads
-use Rattle.replica.proofs.Replica.ack_received.Lts as lts
-use Rattle.replica.proofs.Replica.ack_counted.Reads as ack-counted-reads
-use Rattle.replica.proofs.counting.counts_ack.Reads as counts-ack-reads
-use Rattle.replica.proofs.refusals.ack_refusal.Reads as ack-refusal-reads
-use Rattle.replica.proofs.sending.accept.Reads as accept-reads
-use Rattle.replica.proofs.sending.refuse.Reads as refuse-reads
 
--- src/handlers.rt:176:13
 ack-refusal-requires : tie.Need-ack-refusal-requires
 ack-refusal-requires c κs = search needs
 
--- src/handlers.rt:178:13
 refuse-requires : tie.Need-refuse-requires
 refuse-requires c κs = search needs
 
--- src/handlers.rt:178:13
 returns : tie.Need-returns
 unfolding ackReceived
 returns c = c .refuse .ensures ∙ refuse-by _ _ _ _ (c .before .before .ack-refusal .ensures) (c .before .if1 .taken)
 
--- src/handlers.rt:182:38
 counts-ack-requires : tie.Need-counts-ack-requires
 counts-ack-requires c κs = search needs
 
--- src/handlers.rt:182:25
 enum-known-row : tie.Need-enum-known-row
 enum-known-row c = search needs
 
--- src/handlers.rt:183:42
 enum-told : tie.Need-enum-told
 enum-told c = search needs
 
--- src/handlers.rt:183:13
 accept-requires : tie.Need-accept-requires
 accept-requires c κs = search needs
 
--- src/handlers.rt:183:13
 returns-2 : tie.Need-returns-2
 unfolding ackReceived ackRule
 returns-2 c =
     let a = c .before .before .before .before .before .before .before .args in
     c .accept .ensures ∙ sym (ap (λ k. ackTaken k (a .self) (a .n) (a .from) (a .time)) (sym (c .before .before .before .counts-ack .ensures) ∙ c .before .enum-told .given .1)) ∙ rule-by _ _ _ _ (c .before .before .before .before .before .before .ack-refusal .ensures) (c .before .before .before .before .before .if1 .left)
 
--- src/handlers.rt:185:9
 ack-counted-requires : tie.Need-ack-counted-requires
 ack-counted-requires c κs =
     let a = c .before .before .before .before .before .before .before .args in
     let i = ack-inside (a .self) (a .n) (a .from) (a .time) (a .rid) (sym (c .before .before .before .before .before .before .ack-refusal .ensures) ∙ c .before .before .before .before .before .if1 .left) in
     (fits-clock (a .self) (i .0), sender-time (a .from) (a .time) (a .rid) (i .1), fits-rid (a .self) (i .0))
 
--- src/handlers.rt:173:5
 returns-3 : tie.Need-returns-3
 unfolding ackReceived ackRule
 returns-3 c =

@@ -1,3 +1,4 @@
+-- `replica::Replica::begin_read` meets its contract.
 use native.Mathlib.Omega.{arith}
 use Rattle.replica.specs.RangeLaws.{fits-clock, fits-rid}
 use Rattle.replica.specs.Handlers.{readBegun, readRule}
@@ -6,57 +7,39 @@ use mathlib.Core.Path.{_≡_, sym, ap, _∙_}
 use borrow.Author.Needs.{needs}
 use Rattle.replica.proofs.Replica.begin_read.Statement.{statement}
 use Rattle.replica.proofs.Replica.begin_read.Tie as tie
-use Rattle.replica.proofs.Replica.begin_read.Reads as reads
-use Rattle.replica.proofs.Replica.begin_read.Lts as lts
-use Rattle.replica.proofs.refusals.read_refusal.Reads as read-refusal-reads
-use Rattle.replica.proofs.sending.accept.Reads as accept-reads
-use Rattle.replica.proofs.sending.broadcast.Reads as broadcast-reads
-use Rattle.replica.proofs.sending.refuse.Reads as refuse-reads
-use Rattle.replica.proofs.store.move_to.Reads as move-to-reads
-use Rattle.replica.proofs.store.start_pair.Reads as start-pair-reads
 
--- src/handlers.rt:31:13
 read-refusal-requires : tie.Need-read-refusal-requires
 read-refusal-requires c κs = search needs
 
--- src/handlers.rt:33:13
 refuse-requires : tie.Need-refuse-requires
 refuse-requires c κs = search needs
 
--- src/handlers.rt:33:13
 returns : tie.Need-returns
 unfolding readBegun
 returns c = c .refuse .ensures ∙ refuse-by _ _ _ _ (c .before .before .read-refusal .ensures) (c .before .if1 .taken)
 
--- src/handlers.rt:35:26
 add-t9 : tie.Need-add-t9
 add-t9 c =
     let r = c .before .before .before .args .self in
     omega (arith, fits-clock r (read-inside r _ _ (sym (c .before .before .read-refusal .ensures) ∙ c .before .if1 .left)))
 
--- src/handlers.rt:36:23
 add-t9-2 : tie.Need-add-t9-2
 add-t9-2 c =
     let r = c .before .before .before .before .args .self in
     omega (arith, fits-rid r (read-inside r _ _ (sym (c .before .before .before .read-refusal .ensures) ∙ c .before .before .if1 .left)))
 
--- src/handlers.rt:37:13
 start-pair-requires : tie.Need-start-pair-requires
 start-pair-requires c κs = search needs
 
--- src/handlers.rt:38:9
 move-to-requires : tie.Need-move-to-requires
 move-to-requires c κs = search needs
 
--- src/handlers.rt:39:31
 broadcast-requires : tie.Need-broadcast-requires
 broadcast-requires c κs = search needs
 
--- src/handlers.rt:39:9
 accept-requires : tie.Need-accept-requires
 accept-requires c κs = search needs
 
--- src/handlers.rt:28:5
 returns-2 : tie.Need-returns-2
 unfolding readBegun readRule
 returns-2 c =

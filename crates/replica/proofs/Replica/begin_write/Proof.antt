@@ -1,3 +1,4 @@
+-- `replica::Replica::begin_write` meets its contract.
 use mir.Facts.{toZ-ofZ}
 use mir.Syntax.{w64}
 use native.Mathlib.Omega.{arith}
@@ -8,52 +9,36 @@ use mathlib.Core.Path.{_≡_, sym, ap, _∙_}
 use borrow.Author.Needs.{needs}
 use Rattle.replica.proofs.Replica.begin_write.Statement.{statement}
 use Rattle.replica.proofs.Replica.begin_write.Tie as tie
-use Rattle.replica.proofs.Replica.begin_write.Reads as reads
-use Rattle.replica.proofs.Replica.begin_write.Lts as lts
-use Rattle.replica.proofs.refusals.write_refusal.Reads as write-refusal-reads
-use Rattle.replica.proofs.sending.accept.Reads as accept-reads
-use Rattle.replica.proofs.sending.broadcast.Reads as broadcast-reads
-use Rattle.replica.proofs.sending.refuse.Reads as refuse-reads
-use Rattle.replica.proofs.store.move_to.Reads as move-to-reads
 
--- src/handlers.rt:45:13
 write-refusal-requires : tie.Need-write-refusal-requires
 write-refusal-requires c κs = search needs
 
--- src/handlers.rt:47:13
 refuse-requires : tie.Need-refuse-requires
 refuse-requires c κs = search needs
 
--- src/handlers.rt:47:13
 returns : tie.Need-returns
 unfolding writeBegun
 returns c = c .refuse .ensures ∙ refuse-by _ _ _ _ (c .before .before .write-refusal .ensures) (c .before .if1 .taken)
 
--- src/handlers.rt:49:26
 add-t11 : tie.Need-add-t11
 add-t11 c =
     let r = c .before .before .before .args .self in
     omega (arith, fits-clock r (write-inside r _ _ _ (sym (c .before .before .write-refusal .ensures) ∙ c .before .if1 .left)))
 
--- src/handlers.rt:50:23
 add-t11-2 : tie.Need-add-t11-2
 add-t11-2 c =
     let r = c .before .before .before .before .args .self in
     omega (arith, fits-rid r (write-inside r _ _ _ (sym (c .before .before .before .write-refusal .ensures) ∙ c .before .before .if1 .left)))
 
--- src/handlers.rt:58:9
 move-to-requires : tie.Need-move-to-requires
 move-to-requires c κs = search needs
 
--- src/handlers.rt:61:13
 broadcast-requires : tie.Need-broadcast-requires
 broadcast-requires c κs = search needs
 
--- src/handlers.rt:59:9
 accept-requires : tie.Need-accept-requires
 accept-requires c κs = search needs
 
--- src/handlers.rt:42:5
 returns-2 : tie.Need-returns-2
 unfolding writeBegun writeRule
 returns-2 c =

@@ -1,33 +1,24 @@
+-- `replica::Replica::crash` meets its contract.
 use Rattle.replica.specs.Handlers.{crashed, crashRule}
 use Rattle.replica.specs.HandlerLaws.{rule-by, refuse-by}
 use mathlib.Core.Path.{_≡_, sym, ap, _∙_}
 use borrow.Author.Needs.{needs}
 use Rattle.replica.proofs.Replica.crash.Statement.{statement}
 use Rattle.replica.proofs.Replica.crash.Tie as tie
-use Rattle.replica.proofs.Replica.crash.Reads as reads
-use Rattle.replica.proofs.Replica.crash.Lts as lts
-use Rattle.replica.proofs.refusals.crash_refusal.Reads as crash-refusal-reads
-use Rattle.replica.proofs.sending.accept.Reads as accept-reads
-use Rattle.replica.proofs.sending.refuse.Reads as refuse-reads
 
--- src/handlers.rt:191:13
 crash-refusal-requires : tie.Need-crash-refusal-requires
 crash-refusal-requires c κs = search needs
 
--- src/handlers.rt:193:13
 refuse-requires : tie.Need-refuse-requires
 refuse-requires c κs = search needs
 
--- src/handlers.rt:193:13
 returns : tie.Need-returns
 unfolding crashed
 returns c = c .refuse .ensures ∙ refuse-by _ _ _ _ (c .before .before .crash-refusal .ensures) (c .before .if1 .taken)
 
--- src/handlers.rt:196:9
 accept-requires : tie.Need-accept-requires
 accept-requires c κs = search needs
 
--- src/handlers.rt:188:5
 returns-2 : tie.Need-returns-2
 unfolding crashed crashRule
 returns-2 c = c .accept .ensures ∙ rule-by _ _ _ _ (c .before .before .crash-refusal .ensures) (c .before .if1 .left)

@@ -1,3 +1,4 @@
+-- `replica::Replica::query_received` meets its contract.
 use native.Mathlib.Omega.{arith}
 use Rattle.words.specs.RangeLaws.{sender-time, within-least, within-most}
 use Rattle.replica.specs.RangeLaws.{fits-clock}
@@ -7,51 +8,35 @@ use mathlib.Core.Path.{_≡_, sym, ap, _∙_}
 use borrow.Author.Needs.{needs}
 use Rattle.replica.proofs.Replica.query_received.Statement.{statement}
 use Rattle.replica.proofs.Replica.query_received.Tie as tie
-use Rattle.replica.proofs.Replica.query_received.Reads as reads
-use Rattle.replica.proofs.Replica.query_received.Lts as lts
-use Rattle.replica.proofs.clock.after_receiving.Reads as after-receiving-reads
-use Rattle.replica.proofs.refusals.query_refusal.Reads as query-refusal-reads
-use Rattle.replica.proofs.sending.accept.Reads as accept-reads
-use Rattle.replica.proofs.sending.refuse.Reads as refuse-reads
-use Rattle.replica.proofs.sending.reply.Reads as reply-reads
-use Rattle.replica.proofs.store.pair_of.Reads as pair-of-reads
 
--- src/handlers.rt:68:13
 query-refusal-requires : tie.Need-query-refusal-requires
 query-refusal-requires c κs = search needs
 
--- src/handlers.rt:70:13
 refuse-requires : tie.Need-refuse-requires
 refuse-requires c κs = search needs
 
--- src/handlers.rt:70:13
 returns : tie.Need-returns
 unfolding queryReceived
 returns c = c .refuse .ensures ∙ refuse-by _ _ _ _ (c .before .before .query-refusal .ensures) (c .before .if1 .taken)
 
--- src/handlers.rt:72:13
 pair-of-requires : tie.Need-pair-of-requires
 pair-of-requires c κs =
     let a = c .before .before .args in
     let i = query-inside (a .self) (a .from) (a .time) (a .rid) (a .register) (sym (c .before .query-refusal .ensures) ∙ c .if1 .left) in
     (within-least _ 16 (i .2), within-most _ 16 (i .2))
 
--- src/handlers.rt:73:26
 after-receiving-requires : tie.Need-after-receiving-requires
 after-receiving-requires c κs =
     let a = c .before .before .before .args in
     let i = query-inside (a .self) (a .from) (a .time) (a .rid) (a .register) (sym (c .before .before .query-refusal .ensures) ∙ c .before .if1 .left) in
     omega (arith, fits-clock (a .self) (i .0), sender-time (a .from) (a .time) (a .rid) (i .1))
 
--- src/handlers.rt:75:31
 reply-requires : tie.Need-reply-requires
 reply-requires c κs = search needs
 
--- src/handlers.rt:75:9
 accept-requires : tie.Need-accept-requires
 accept-requires c κs = search needs
 
--- src/handlers.rt:65:5
 returns-2 : tie.Need-returns-2
 unfolding queryReceived queryRule
 returns-2 c =

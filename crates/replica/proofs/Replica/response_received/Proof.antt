@@ -1,3 +1,4 @@
+-- `replica::Replica::response_received` meets its contract.
 use Rattle.words.specs.RangeLaws.{sender-time}
 use Rattle.replica.specs.RangeLaws.{fits-clock, fits-rid}
 use Rattle.replica.specs.Handlers.{responseReceived, responseRule, responseTaken, responseCounted}
@@ -6,63 +7,44 @@ use mathlib.Core.Path.{_≡_, sym, ap, _∙_}
 use borrow.Author.Needs.{needs}
 use Rattle.replica.proofs.Replica.response_received.Statement.{statement}
 use Rattle.replica.proofs.Replica.response_received.Tie as tie
-use Rattle.replica.proofs.Replica.response_received.Reads as reads
-use Rattle.replica.proofs.Replica.response_received.Lts as lts
-use Rattle.replica.proofs.Replica.response_counted.Reads as response-counted-reads
-use Rattle.replica.proofs.counting.counts_response.Reads as counts-response-reads
-use Rattle.replica.proofs.refusals.response_refusal.Reads as response-refusal-reads
-use Rattle.replica.proofs.sending.accept.Reads as accept-reads
-use Rattle.replica.proofs.sending.refuse.Reads as refuse-reads
-use Rattle.words.proofs.stamps.newer_of.Reads as newer-of-reads
 
--- src/handlers.rt:138:13
 response-refusal-requires : tie.Need-response-refusal-requires
 response-refusal-requires c κs = search needs
 
--- src/handlers.rt:140:13
 refuse-requires : tie.Need-refuse-requires
 refuse-requires c κs = search needs
 
--- src/handlers.rt:140:13
 returns : tie.Need-returns
 unfolding responseReceived
 returns c = c .refuse .ensures ∙ refuse-by _ _ _ _ (c .before .before .response-refusal .ensures) (c .before .if1 .taken)
 
--- src/handlers.rt:144:38
 counts-response-requires : tie.Need-counts-response-requires
 counts-response-requires c κs = search needs
 
--- src/handlers.rt:144:25
 enum-known-row : tie.Need-enum-known-row
 enum-known-row c = search needs
 
--- src/handlers.rt:145:42
 enum-told : tie.Need-enum-told
 enum-told c = search needs
 
--- src/handlers.rt:145:13
 accept-requires : tie.Need-accept-requires
 accept-requires c κs = search needs
 
--- src/handlers.rt:145:13
 returns-2 : tie.Need-returns-2
 unfolding responseReceived responseRule
 returns-2 c =
     let a = c .before .before .before .before .before .before .before .args in
     c .accept .ensures ∙ sym (ap (λ k. responseTaken k (a .self) (a .n) (a .register) (a .from) (a .time) (a .pair)) (sym (c .before .before .before .counts-response .ensures) ∙ c .before .enum-told .given .1)) ∙ rule-by _ _ _ _ (c .before .before .before .before .before .before .response-refusal .ensures) (c .before .before .before .before .before .if1 .left)
 
--- src/handlers.rt:147:61
 newer-of-requires : tie.Need-newer-of-requires
 newer-of-requires c κs = search needs
 
--- src/handlers.rt:147:9
 response-counted-requires : tie.Need-response-counted-requires
 response-counted-requires c κs =
     let a = c .before .before .before .before .before .before .before .before .args in
     let i = response-inside (a .self) (a .n) (a .register) (a .from) (a .time) (a .rid) (a .pair) (sym (c .before .before .before .before .before .before .before .response-refusal .ensures) ∙ c .before .before .before .before .before .before .if1 .left) in
     (fits-clock (a .self) (i .0), sender-time (a .from) (a .time) (a .rid) (i .1), fits-rid (a .self) (i .0))
 
--- src/handlers.rt:127:5
 returns-3 : tie.Need-returns-3
 unfolding responseReceived responseRule
 returns-3 c =

@@ -1,25 +1,20 @@
+-- `replica::refusals::begin_refusal` meets its contract.
 use Rattle.replica.specs.Handlers.{beginRefusal}
 use Rattle.replica.proofs.refusals.begin_refusal.Statement.{statement}
 use Rattle.replica.proofs.refusals.begin_refusal.Tie as tie
-use Rattle.replica.proofs.refusals.begin_refusal.Reads as reads
-use Rattle.replica.proofs.refusals.begin_refusal.Lts as lts
 
--- src/refusals.rt:52:1
 returns : tie.Need-returns
 unfolding beginRefusal
 returns c = simp (c .before .if1 .taken, c .if2 .taken)
 
--- src/refusals.rt:52:1
 returns-2 : tie.Need-returns-2
 unfolding beginRefusal
 returns-2 c = simp (c .before .before .if1 .taken, c .before .if2 .left, c .if3 .taken)
 
--- src/refusals.rt:52:1
 returns-3 : tie.Need-returns-3
 unfolding beginRefusal
 returns-3 c = simp (c .before .before .if1 .taken, c .before .if2 .left, c .if3 .left)
 
--- src/refusals.rt:52:1
 returns-4 : tie.Need-returns-4
 unfolding beginRefusal
 returns-4 c = simp (c .if1 .left)

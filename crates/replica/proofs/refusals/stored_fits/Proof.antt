@@ -1,36 +1,27 @@
+-- `replica::refusals::stored_fits` meets its contract.
 use Rattle.words.specs.RangeLaws.{within-least, within-most, and-when, and-unless}
 use Rattle.words.specs.Ranges.{pairFits}
 use mathlib.Core.Path.{sym, ap, _∙_}
 use borrow.Author.Needs.{needs}
 use Rattle.replica.proofs.refusals.stored_fits.Statement.{statement}
 use Rattle.replica.proofs.refusals.stored_fits.Tie as tie
-use Rattle.replica.proofs.refusals.stored_fits.Reads as reads
-use Rattle.replica.proofs.refusals.stored_fits.Lts as lts
-use Rattle.words.proofs.ranges.is_within.Reads as is-within-reads
-use Rattle.words.proofs.ranges.pair_fits.Reads as pair-fits-reads
-use Rattle.replica.proofs.store.pair_of.Reads as pair-of-reads
 
--- src/refusals.rt:103:8
 is-within-requires : tie.Need-is-within-requires
 is-within-requires c κs = search needs
 
--- src/refusals.rt:104:19
 pair-of-requires : tie.Need-pair-of-requires
 pair-of-requires c κs =
     let w = sym (c .before .is-within .ensures) ∙ c .if1 .taken in
     (within-least _ 16 w, within-most _ 16 w)
 
--- src/refusals.rt:104:9
 pair-fits-requires : tie.Need-pair-fits-requires
 pair-fits-requires c κs = search needs
 
--- src/refusals.rt:100:1
 returns : tie.Need-returns
 returns c =
     let w = sym (c .before .before .before .is-within .ensures) ∙ c .before .before .if1 .taken in
     c .pair-fits .ensures ∙ ap (pairFits 12000 7) (c .before .pair-of .ensures) ∙ sym (and-when _ _ w)
 
--- src/refusals.rt:100:1
 returns-2 : tie.Need-returns-2
 returns-2 c =
     let w = sym (c .before .is-within .ensures) ∙ c .if1 .left in

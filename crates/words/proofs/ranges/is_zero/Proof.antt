@@ -1,10 +1,8 @@
+-- `words::ranges::is_zero` meets its contract.
 use Rattle.words.proofs.Signed.{zero-bits}
 use Rattle.words.proofs.ranges.is_zero.Statement.{statement}
 use Rattle.words.proofs.ranges.is_zero.Tie as tie
-use Rattle.words.proofs.ranges.is_zero.Reads as reads
-use Rattle.words.proofs.ranges.is_zero.Lts as lts
 
--- src/ranges.rt:28:1
 returns : tie.Need-returns
 returns c = zero-bits (c .args .value) (c .fits .value)
 

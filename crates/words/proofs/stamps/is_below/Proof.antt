@@ -5,8 +5,6 @@ use borrow.Author.Tests.{lt-ltb, le-ltb, eq-eqb, ne-eqb}
 use Rattle.words.specs.Stamps.{below}
 use Rattle.words.proofs.stamps.is_below.Statement.{statement}
 use Rattle.words.proofs.stamps.is_below.Tie as tie
-use Rattle.words.proofs.stamps.is_below.Reads as reads
-use Rattle.words.proofs.stamps.is_below.Lts as lts
 
 returns : tie.Need-returns
 unfolding below

@@ -4,9 +4,6 @@ use borrow.Author.Needs.{needs}
 use Rattle.words.specs.Stamps.{below, newer}
 use Rattle.words.proofs.stamps.newer_of.Statement.{statement}
 use Rattle.words.proofs.stamps.newer_of.Tie as tie
-use Rattle.words.proofs.stamps.newer_of.Reads as reads
-use Rattle.words.proofs.stamps.newer_of.Lts as lts
-use Rattle.words.proofs.stamps.is_below.Reads as is-below-reads
 
 is-below-requires : tie.Need-is-below-requires
 is-below-requires c κs = search needs

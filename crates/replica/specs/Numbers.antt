@@ -1,0 +1,24 @@
+-- Document 01's numbers and values for the cases of an answer: how many messages are sent, when an operation was answered, and its pair.
+use Prim.Native.Nat.{ℕ}
+use Rattle.words.specs.declared.Pair.{Pair}
+use Rattle.words.specs.Stamps.{startPair}
+use Rattle.replica.specs.declared.Sends.{Sends}
+use Rattle.replica.specs.declared.Sends.the-variants.{Nothing, Reply, Broadcast}
+use Rattle.replica.specs.declared.Ended.{Ended}
+use Rattle.replica.specs.declared.Ended.the-variants.{Pending, At}
+
+-- nothing is no message, a reply is 1, a broadcast is one to each of N processes
+abbrev pub sentBy : ℕ → Sends → ℕ
+sentBy n Nothing = 0
+sentBy n (Reply to letter) = 1
+sentBy n (Broadcast letter) = n
+
+-- the response time, 0 while pending
+abbrev pub answeredAt : Ended → ℕ
+answeredAt Pending = 0
+answeredAt (At time pair) = time .0
+
+-- the pair that a completed operation chose, ((0, 0), 0) while pending
+abbrev pub chosenBy : Ended → Pair
+chosenBy Pending = startPair
+chosenBy (At time pair) = pair
