@@ -1,0 +1,5 @@
+pub mod State
+pub mod Step
+pub mod WellFormed
+pub mod Reached
+pub mod Examples
