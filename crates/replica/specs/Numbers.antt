@@ -1,7 +1,10 @@
--- Document 01's numbers and values for the cases of an answer: how many messages are sent, when an operation was answered, and its pair.
+-- Document 01's numbers and values for the cases of an answer: how many messages are sent, when an operation was answered, and its pair; and
+-- of a phase, the row that it points to.
 use Prim.Native.Nat.{ℕ}
 use Rattle.words.specs.declared.Pair.{Pair}
 use Rattle.words.specs.Stamps.{startPair}
+use Rattle.replica.specs.declared.Phase.{Phase}
+use Rattle.replica.specs.declared.Phase.the-variants.{Idle, Querying, Updating}
 use Rattle.replica.specs.declared.Sends.{Sends}
 use Rattle.replica.specs.declared.Sends.the-variants.{Nothing, Reply, Broadcast}
 use Rattle.replica.specs.declared.Ended.{Ended}
@@ -22,3 +25,9 @@ answeredAt (At time pair) = time .0
 abbrev pub chosenBy : Ended → Pair
 chosenBy Pending = startPair
 chosenBy (At time pair) = pair
+
+-- the row that a waiting replica points to, 0 while idle
+abbrev pub pointed : Phase → ℕ
+pointed Idle = 0
+pointed (Querying row best) = row
+pointed (Updating row sent) = row

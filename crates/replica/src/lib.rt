@@ -10,6 +10,7 @@ mod clock;
 mod counting;
 mod fits;
 pub mod handlers;
+pub mod phases;
 mod refusals;
 mod sending;
 mod store;

@@ -18,6 +18,7 @@ ghost use Rattle.replica.specs.Handlers.{
 use crate::Phase;
 use crate::Replica;
 use crate::fits::replica_fits;
+use crate::phases;
 use crate::store;
 use words::Pair;
 use words::Pid;
@@ -38,16 +39,6 @@ const PENDING: u8 = 11;
 const RECIPIENT_CRASHED: u8 = 13;
 
 const OUT_OF_RANGE: u8 = 18;
-
-pub fn is_idle(phase: Phase) -> bool
-    ensures { λ r. ⌜ r ≡ isIdle phase ⌝ }
-{
-    match phase {
-        Phase::Idle => true,
-        Phase::Querying(_, _) => false,
-        Phase::Updating(_, _) => false,
-    }
-}
 
 // Why an operation is not begun.
 fn begin_refusal(fits: bool, crashed: bool, idle: bool) -> u8
@@ -82,7 +73,7 @@ pub fn read_refusal(r: Replica, register: u8, row: u16) -> u8
 {
     let fits = replica_fits(r) & is_within(register, REGISTERS) & row_fits(row);
     let phase = r.phase;
-    begin_refusal(fits, r.crashed, is_idle(phase))
+    begin_refusal(fits, r.crashed, phases::is_idle(phase))
 }
 
 pub fn write_refusal(r: Replica, me: Pid, register: u8, row: u16) -> u8
@@ -93,7 +84,7 @@ pub fn write_refusal(r: Replica, me: Pid, register: u8, row: u16) -> u8
         & is_within(register, REGISTERS)
         & row_fits(row);
     let phase = r.phase;
-    begin_refusal(fits, r.crashed, is_idle(phase))
+    begin_refusal(fits, r.crashed, phases::is_idle(phase))
 }
 
 // A register of 1 to 16 whose stored pair is inside the ranges.

@@ -1,0 +1,92 @@
+// The rows of the history: how one begins and how it is completed.
+ghost use mathlib.Core.Path.{_≡_};
+ghost use Rattle.decide.specs.Plan.{askedOf, numberBy, rowBy};
+ghost use Rattle.state.specs.Step.{readRow, writeRow, completed};
+use replica::Ended;
+use replica::Phase;
+use tables::Kind;
+use tables::Row;
+use words::Pair;
+use words::Pid;
+use words::Stamp;
+use words::Time;
+
+pub fn read_row(p: u8, x: u8, clock: Time) -> Row
+    ensures { λ r. ⌜ r ≡ readRow p x (clock .0) ⌝ }
+{
+    Row {
+        process: Pid(p),
+        kind: Kind::Read,
+        register: x,
+        invoked: clock,
+        answered: Time(0),
+        stamp: Stamp {
+            time: Time(0),
+            process: Pid(0),
+        },
+        value: 0,
+    }
+}
+
+pub fn write_row(p: u8, x: u8, value: i64, clock: Time) -> Row
+    ensures { λ r. ⌜ r ≡ writeRow p x value (clock .0) ⌝ }
+{
+    Row {
+        process: Pid(p),
+        kind: Kind::Write,
+        register: x,
+        invoked: clock,
+        answered: Time(0),
+        stamp: Stamp {
+            time: clock,
+            process: Pid(p),
+        },
+        value: value,
+    }
+}
+
+// A completed read has the pair it chose; a write keeps its own.
+pub fn completed_row(row: Row, time: Time, pair: Pair) -> Row
+    ensures { λ r. ⌜ r ≡ completed row time pair ⌝ }
+{
+    let mut next = row;
+    next.answered = time;
+    let kind = row.kind;
+    match kind {
+        Kind::Write => next,
+        Kind::Read => {
+            let stamp = pair.stamp;
+            next.stamp = stamp;
+            next.value = pair.value;
+            next
+        }
+    }
+}
+
+pub fn asked_of(phase: Phase, row: Row) -> u8
+    ensures { λ r. ⌜ r ≡ askedOf phase row ⌝ }
+{
+    match phase {
+        Phase::Idle => 1,
+        Phase::Querying(_, _) => row.register,
+        Phase::Updating(_, _) => 1,
+    }
+}
+
+pub fn number_by(ended: Ended, number: u16) -> u16
+    ensures { λ r. ⌜ r ≡ numberBy ended number ⌝ }
+{
+    match ended {
+        Ended::Pending => 0,
+        Ended::At(_, _) => number,
+    }
+}
+
+pub fn row_by(ended: Ended, row: Row) -> Row
+    ensures { λ r. ⌜ r ≡ rowBy ended row ⌝ }
+{
+    match ended {
+        Ended::Pending => tables::empty_row(),
+        Ended::At(time, pair) => completed_row(row, time, pair),
+    }
+}
