@@ -57,3 +57,94 @@ fn settle(number: u8, r: Replica, plan: Plan) -> Plan
         refused_plan(number, r)
     }
 }
+
+fn read_plan(c: Counters, p: u8, x: u8, r: Replica) -> Plan
+    requires { ⌜ (c .sent ≤ 84000) × (c .rows ≤ 1024) ⌝ }
+    ensures { λ q. ⌜ q ≡ readPlan c p x r ⌝ }
+{
+    let number = c.rows + 1;
+    let phase = r.phase;
+    let idle = phases::is_idle(phase);
+    let answer = r.begin_read(x, number);
+    let refusal = checks::invoke_checks(c, p, x, r.crashed, idle, answer.refusal);
+    let next = answer.replica;
+    let clock = next.clock;
+    let row = rows::read_row(p, x, clock);
+    settle(refusal, r, accepted_plan(c, p, answer, number, row))
+}
+
+fn write_plan(c: Counters, p: u8, x: u8, value: i64, r: Replica) -> Plan
+    requires { ⌜ (c .sent ≤ 84000) × (c .rows ≤ 1024) ⌝ }
+    ensures { λ q. ⌜ q ≡ writePlan c p x value r ⌝ }
+{
+    let number = c.rows + 1;
+    let phase = r.phase;
+    let idle = phases::is_idle(phase);
+    let answer = r.begin_write(Pid(p), x, value, number);
+    let refusal = checks::invoke_checks(c, p, x, r.crashed, idle, answer.refusal);
+    let next = answer.replica;
+    let clock = next.clock;
+    let row = rows::write_row(p, x, value, clock);
+    settle(refusal, r, accepted_plan(c, p, answer, number, row))
+}
+
+fn deliver_plan(c: Counters, found: Found, message: Message, r: Replica, row: Row) -> Plan
+    requires { ⌜ c .sent ≤ 84000 ⌝ }
+    ensures { λ q. ⌜ q ≡ deliverPlan c found message r row ⌝ }
+{
+    let Found::At(_) = found else {
+        return refused_plan(checks::missing_checks(c), r);
+    };
+    let phase = r.phase;
+    let asked = rows::asked_of(phase, row);
+    let answer = answer_to(c.n, asked, r, message);
+    let sends = answer.sends;
+    let ended = answer.ended;
+    let count = sends::count_of(c.n, sends);
+    let refusal = checks::deliver_checks(c, r.crashed, count, answer.refusal);
+    let number = rows::number_by(ended, phases::pointed_by(phase));
+    let to = message.to;
+    let plan = accepted_plan(c, to.0, answer, number, rows::row_by(ended, row));
+    settle(refusal, r, plan)
+}
+
+fn crash_plan(c: Counters, p: u8, r: Replica) -> Plan
+    requires { ⌜ c .sent ≤ 84000 ⌝ }
+    ensures { λ q. ⌜ q ≡ crashPlan c p r ⌝ }
+{
+    let answer = r.crash();
+    let refusal = checks::crash_checks(c, p, r.crashed, answer.refusal);
+    let row = tables::empty_row();
+    settle(refusal, r, accepted_plan(c, p, answer, 0, row))
+}
+
+// A lost message changes no replica: the plan only says whether it may be lost.
+fn lose_plan(c: Counters, found: Found, down: bool, r: Replica) -> Plan
+    ensures { λ q. ⌜ q ≡ losePlan c found down r ⌝ }
+{
+    let Found::At(_) = found else {
+        return refused_plan(checks::missing_checks(c), r);
+    };
+    refused_plan(checks::lose_checks(c, down), r)
+}
+
+pub fn plan_of(
+    c: Counters,
+    event: Event,
+    found: Found,
+    message: Message,
+    down: bool,
+    r: Replica,
+    row: Row,
+) -> Plan
+    requires { ⌜ (c .sent ≤ 84000) × (c .rows ≤ 1024) ⌝ }
+    ensures { λ q. ⌜ q ≡ planOf c event found message down r row ⌝ }
+{
+    match event {
+        Event::Read(p, x) => read_plan(c, p.0, x, r),
+        Event::Write(p, x, value) => write_plan(c, p.0, x, value, r),
+        Event::Deliver(_) => deliver_plan(c, found, message, r, row),
+        Event::Crash(p) => crash_plan(c, p.0, r),
+        Event::Lose(_) => lose_plan(c, found, down, r),
+    }
+}

@@ -1,66 +1,49 @@
+-- `decide::deliver::answer_to` meets its contract.
 use Rattle.decide.specs.Plan.{answerBy}
 use mathlib.Core.Path.{_≡_, sym, ap, _∙_}
 use borrow.Author.Needs.{needs}
 use Rattle.decide.proofs.deliver.answer_to.Statement.{statement}
 use Rattle.decide.proofs.deliver.answer_to.Tie as tie
-use Rattle.decide.proofs.deliver.answer_to.Reads as reads
-use Rattle.decide.proofs.deliver.answer_to.Lts as lts
-use Rattle.replica.proofs.Replica.ack_received.Reads as ack-received-reads
-use Rattle.replica.proofs.Replica.query_received.Reads as query-received-reads
-use Rattle.replica.proofs.Replica.response_received.Reads as response-received-reads
-use Rattle.replica.proofs.Replica.update_received.Reads as update-received-reads
 
--- src/deliver.rt:17:21
 enum-known-body : tie.Need-enum-known-body
 enum-known-body c = search needs
 
--- src/deliver.rt:17:27
 query-received-requires : tie.Need-query-received-requires
 query-received-requires c κs = search needs
 
--- src/deliver.rt:18:24
 enum-known-body-2 : tie.Need-enum-known-body-2
 enum-known-body-2 c = search needs
 
--- src/deliver.rt:18:33
 response-received-requires : tie.Need-response-received-requires
 response-received-requires c κs = search needs
 
--- src/deliver.rt:19:22
 enum-known-body-3 : tie.Need-enum-known-body-3
 enum-known-body-3 c = search needs
 
--- src/deliver.rt:19:34
 update-received-requires : tie.Need-update-received-requires
 update-received-requires c κs = search needs
 
--- src/deliver.rt:20:22
 enum-told : tie.Need-enum-told
 enum-told c = search needs
 
--- src/deliver.rt:20:22
 ack-received-requires : tie.Need-ack-received-requires
 ack-received-requires c κs = search needs
 
--- src/deliver.rt:9:1
 returns : tie.Need-returns
 returns c =
     let a = c .before .before .before .before .before .before .before .args in
     c .query-received .ensures ∙ sym (ap (λ b. answerBy b (a .n) (a .asked) (a .r) (a .message)) (c .before .before .body .given .1))
 
--- src/deliver.rt:9:1
 returns-2 : tie.Need-returns-2
 returns-2 c =
     let a = c .before .before .before .before .before .before .before .args in
     c .response-received .ensures ∙ sym (ap (λ b. answerBy b (a .n) (a .asked) (a .r) (a .message)) (c .before .before .body2 .given .1))
 
--- src/deliver.rt:9:1
 returns-3 : tie.Need-returns-3
 returns-3 c =
     let a = c .before .before .before .before .before .before .before .args in
     c .update-received .ensures ∙ sym (ap (λ b. answerBy b (a .n) (a .asked) (a .r) (a .message)) (c .before .before .body3 .given .1))
 
--- src/deliver.rt:9:1
 returns-4 : tie.Need-returns-4
 returns-4 c =
     let a = c .before .before .before .before .before .before .args in

@@ -1,22 +1,17 @@
+-- `decide::events::settle` meets its contract.
 use Rattle.replica.specs.HandlerLaws.{picks-first, picks-second}
 use borrow.Author.Tests.{eq-eqb, ne-eqb}
 use mathlib.Core.Path.{_≡_, sym, ap, _∙_}
 use borrow.Author.Needs.{needs}
 use Rattle.decide.proofs.events.settle.Statement.{statement}
 use Rattle.decide.proofs.events.settle.Tie as tie
-use Rattle.decide.proofs.events.settle.Reads as reads
-use Rattle.decide.proofs.events.settle.Lts as lts
-use Rattle.decide.proofs.events.refused_plan.Reads as refused-plan-reads
 
--- src/events.rt:57:9
 refused-plan-requires : tie.Need-refused-plan-requires
 refused-plan-requires c κs = search needs
 
--- src/events.rt:51:1
 returns : tie.Need-returns
 returns c = picks-first _ _ _ (eq-eqb _ _ (c .if1 .taken))
 
--- src/events.rt:51:1
 returns-2 : tie.Need-returns-2
 returns-2 c = c .refused-plan .ensures ∙ picks-second _ _ _ (ne-eqb _ _ (c .before .if1 .left))
 

@@ -21,7 +21,7 @@ by-kind row time pair kind =
       invoked = row .invoked;
       answered = time;
       stamp = kept kind row pair .stamp;
-      value = kept kind row pair .value
+      value = kept kind row pair .value;
     }
 
 enum-told : tie.Need-enum-told

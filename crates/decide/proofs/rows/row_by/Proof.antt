@@ -1,34 +1,25 @@
+-- `decide::rows::row_by` meets its contract.
 use Rattle.decide.specs.Plan.{rowBy}
 use mathlib.Core.Path.{_≡_, sym, ap, _∙_}
 use borrow.Author.Needs.{needs}
 use Rattle.decide.proofs.rows.row_by.Statement.{statement}
 use Rattle.decide.proofs.rows.row_by.Tie as tie
-use Rattle.decide.proofs.rows.row_by.Reads as reads
-use Rattle.decide.proofs.rows.row_by.Lts as lts
-use Rattle.decide.proofs.rows.completed_row.Reads as completed-row-reads
-use Rattle.tables.proofs.empty_row.Reads as empty-row-reads
 
--- src/rows.rt:89:27
 enum-told : tie.Need-enum-told
 enum-told c = search needs
 
--- src/rows.rt:89:27
 empty-row-requires : tie.Need-empty-row-requires
 empty-row-requires c κs = search needs
 
--- src/rows.rt:90:19
 enum-known-ended : tie.Need-enum-known-ended
 enum-known-ended c = search needs
 
--- src/rows.rt:90:34
 completed-row-requires : tie.Need-completed-row-requires
 completed-row-requires c κs = search needs
 
--- src/rows.rt:85:1
 returns : tie.Need-returns
 returns c = search needs
 
--- src/rows.rt:85:1
 returns-2 : tie.Need-returns-2
 returns-2 c =
     let a = c .before .before .before .before .args in

@@ -1,48 +1,36 @@
+-- `decide::sends::first_of` meets its contract.
 use Rattle.decide.specs.Plan.{firstOf}
 use mathlib.Core.Path.{_≡_, sym, ap, _∙_}
 use borrow.Author.Needs.{needs}
 use Rattle.decide.proofs.sends.first_of.Statement.{statement}
 use Rattle.decide.proofs.sends.first_of.Tie as tie
-use Rattle.decide.proofs.sends.first_of.Reads as reads
-use Rattle.decide.proofs.sends.first_of.Lts as lts
-use Rattle.decide.proofs.sends.message_of.Reads as message-of-reads
-use Rattle.tables.proofs.empty_message.Reads as empty-message-reads
 
--- src/sends.rt:41:27
 enum-told : tie.Need-enum-told
 enum-told c = search needs
 
--- src/sends.rt:41:27
 empty-message-requires : tie.Need-empty-message-requires
 empty-message-requires c κs = search needs
 
--- src/sends.rt:42:22
 enum-known-sends : tie.Need-enum-known-sends
 enum-known-sends c = search needs
 
--- src/sends.rt:42:37
 message-of-requires : tie.Need-message-of-requires
 message-of-requires c κs = search needs
 
--- src/sends.rt:43:26
 enum-known-sends-2 : tie.Need-enum-known-sends-2
 enum-known-sends-2 c = search needs
 
--- src/sends.rt:43:37
 message-of-requires-2 : tie.Need-message-of-requires-2
 message-of-requires-2 c κs = search needs
 
--- src/sends.rt:37:1
 returns : tie.Need-returns
 returns c = search needs
 
--- src/sends.rt:37:1
 returns-2 : tie.Need-returns-2
 returns-2 c =
     let a = c .before .before .before .before .args in
     c .message-of .ensures ∙ sym (ap (λ s. firstOf (a .number) (a .from) s) (c .before .before .sends .given .1))
 
--- src/sends.rt:37:1
 returns-3 : tie.Need-returns-3
 returns-3 c =
     let a = c .before .before .before .before .args in
