@@ -2,4 +2,5 @@ pub mod State
 pub mod Step
 pub mod WellFormed
 pub mod Reached
+pub mod Tabled
 pub mod Examples
