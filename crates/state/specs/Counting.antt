@@ -1,0 +1,104 @@
+-- Document 01: "At every moment the messages sent (N for each invocation, 1 for each request delivered, N for each query majority) equal those
+-- delivered, plus those lost, plus those in flight; the first three are counted over the events, the last over the table." Here they are counted
+-- over the events: nothing below reads a counter of the state or what a handler sends.
+use Prim.Native.Nat.{ℕ, _+_}
+use mathlib.Core.Path.{_≡_}
+use mathlib.Core.Bool.{Bool, true, false, cond, _&&_}
+use mathlib.Core.List.{List, [], _∷_}
+use lib.Dec.{eqb, leb}
+use lib.ListN.{length}
+use Rattle.words.specs.declared.Body.{Body}
+use Rattle.words.specs.declared.Body.the-variants.{Query, Response, Update, Ack}
+use Rattle.words.specs.declared.Message.{Message}
+use Rattle.words.specs.Quorum.{joined, counted, majorityOf}
+use Rattle.words.specs.Ranges.{within}
+use Rattle.replica.specs.declared.Phase.{Phase}
+use Rattle.replica.specs.declared.Phase.the-variants.{Idle, Querying, Updating}
+use Rattle.replica.specs.declared.Replica.{Replica}
+use Rattle.tables.specs.declared.Found.{Found}
+use Rattle.tables.specs.declared.Found.the-variants.{At as Place, Missing}
+use Rattle.tables.specs.Tables.{seek}
+use Rattle.state.specs.declared.Event.{Event}
+use Rattle.state.specs.declared.Event.the-variants.{Read, Write, Deliver, Crash, Lose}
+use Rattle.state.specs.State.{State, fresh}
+use Rattle.state.specs.Step.{step}
+use Rattle.state.specs.Follows.{messageAt, receiverOf}
+
+-- ---- a run: the accepted events from a fresh start, each with the state before it, the latest first
+
+pub record Moment : Type 0 where
+  pub before : State
+  pub event : Event
+
+pub data Run : State → List Moment → Type 0 where
+  begun : (n m : ℕ) → within n 7 ≡ true → within m 16 ≡ true → Run (fresh n m) []
+  then : (s : State) (e : Event) (run : List Moment) → Run s run → step s e .refusal ≡ 0
+      → Run (step s e .state) (record { before = s; event = e } ∷ run)
+
+-- ---- what one event sends, delivers, loses
+
+abbrev pub isQuerying : Phase → Bool
+isQuerying Idle = false
+isQuerying (Querying row best) = true
+isQuerying (Updating row sent) = false
+
+-- with the sender the repliers are a majority
+abbrev pub makesMajority : ℕ → Replica → Message → Bool
+makesMajority n r message = leb (majorityOf n) (counted (joined (r .repliers) (message .from .0)))
+
+-- a response counts while querying and with the present request number; this one counts and makes a majority
+abbrev pub makesQueryMajority : ℕ → Replica → Message → Bool
+makesQueryMajority n r message = isQuerying (r .phase) && eqb (message .rid .0) (r .rid .0) && makesMajority n r message
+
+abbrev pub sentOnReceipt : ℕ → Replica → Message → Body → ℕ
+sentOnReceipt n r message (Query x) = 1
+sentOnReceipt n r message (Response pair) = cond (makesQueryMajority n r message) n 0
+sentOnReceipt n r message (Update x pair) = 1
+sentOnReceipt n r message Ack = 0
+
+abbrev pub sentOnFound : State → Found → ℕ
+sentOnFound s Missing = 0
+sentOnFound s (Place i) = sentOnReceipt (s .n) (receiverOf s i) (messageAt s i) (messageAt s i .body)
+
+abbrev pub sentAt : State → Event → ℕ
+sentAt s (Read p x) = s .n
+sentAt s (Write p x value) = s .n
+sentAt s (Deliver k) = sentOnFound s (seek k 0 (s .flight))
+sentAt s (Crash p) = 0
+sentAt s (Lose k) = 0
+
+abbrev pub deliveredAt : Event → ℕ
+deliveredAt (Read p x) = 0
+deliveredAt (Write p x value) = 0
+deliveredAt (Deliver k) = 1
+deliveredAt (Crash p) = 0
+deliveredAt (Lose k) = 0
+
+abbrev pub lostAt : Event → ℕ
+lostAt (Read p x) = 0
+lostAt (Write p x value) = 0
+lostAt (Deliver k) = 0
+lostAt (Crash p) = 0
+lostAt (Lose k) = 1
+
+-- ---- over a run
+
+abbrev pub sentOver : List Moment → ℕ
+sentOver [] = 0
+sentOver (moment ∷ run) = sentOver run + sentAt (moment .before) (moment .event)
+
+abbrev pub deliveredOver : List Moment → ℕ
+deliveredOver [] = 0
+deliveredOver (moment ∷ run) = deliveredOver run + deliveredAt (moment .event)
+
+abbrev pub lostOver : List Moment → ℕ
+lostOver [] = 0
+lostOver (moment ∷ run) = lostOver run + lostAt (moment .event)
+
+-- the counters are the sums, and what was sent is delivered, lost or in the table
+pub record Counted (s : State) (run : List Moment) : Type 0 where
+  pub accepted : s .accepted ≡ length run
+  pub sent : s .sent ≡ sentOver run
+  pub delivered : s .delivered ≡ deliveredOver run
+  pub lost : s .lost ≡ lostOver run
+  pub balance : sentOver run ≡ deliveredOver run + lostOver run + length (s .flight)
