@@ -1,0 +1,94 @@
+-- When a bench's state and a system that runs Algorithm 1 are the same: one fixed definition, process by process, message by message, row by row.
+use Prim.Native.Nat.{ℕ, zero, suc, _≤_}
+use mathlib.Core.Path.{_≡_}
+use mathlib.Core.Bool.{Bool, true, false, not, _||_}
+use mathlib.Core.List.{List, [], _∷_, map}
+use lib.Dec.{eqb}
+use lib.IntN.{ℤ}
+use lib.ListN.{length}
+use Rattle.words.specs.declared.Body.{Body}
+use Rattle.words.specs.declared.Body.the-variants.{Query, Response, Update, Ack}
+use Rattle.words.specs.declared.Message.{Message}
+use Rattle.words.specs.declared.Pair.{Pair}
+use Rattle.words.specs.Quorum.{member, counted}
+use Rattle.replica.specs.declared.Phase.{Phase}
+use Rattle.replica.specs.declared.Phase.the-variants.{Idle, Querying, Updating}
+use Rattle.replica.specs.declared.Replica.{Replica}
+use Rattle.replica.specs.Handlers.{stored}
+use Rattle.tables.specs.declared.Kind.{Kind}
+use Rattle.tables.specs.declared.Kind.the-variants.{Read, Write}
+use Rattle.tables.specs.declared.Row.{Row}
+use Rattle.state.specs.State.{State, replicaOf, rowOf}
+use Rattle.sc_abd.specs.Algorithm1.{Tsv, Content, Packet, Process, Reply, Return, maxOf}
+use Rattle.sc_abd.specs.System.{Call, Operation, System}
+
+abbrev pub tsvOf : Pair → Tsv
+tsvOf p = record { ts = record { time = p .stamp .time .0; process = p .stamp .process .0 }; value = p .value }
+
+-- ---- messages
+
+abbrev pub contentOf : ℕ → ℕ → Body → Content
+contentOf lt rid (Query x) = Content.query lt rid x
+contentOf lt rid (Response pair) = Content.response lt rid (tsvOf pair)
+contentOf lt rid (Update x pair) = Content.update lt rid x (tsvOf pair)
+contentOf lt rid Ack = Content.ack lt rid
+
+abbrev pub packetOf : Message → Packet
+packetOf m = record { from = m .from .0; to = m .to .0; content = contentOf (m .time .0) (m .rid .0) (m .body) }
+
+-- ---- rows: the call, and its result exactly when the algorithm has RETURNed it
+
+abbrev pub callOf : Kind → Row → Call
+callOf Read r = Call.READ (r .register)
+callOf Write r = Call.WRITE (r .register) (r .value)
+
+-- a read gives the chosen value, a write gives only "done"
+abbrev pub resultOf : Kind → Row → Return
+resultOf Read r = Return.value (r .value)
+resultOf Write r = Return.OK
+
+abbrev pub returnedOf : ℕ → Row → Return
+returnedOf zero r = Return.none
+returnedOf (suc t) r = resultOf (r .kind) r
+
+abbrev pub operationOf : Row → Operation
+operationOf r = record { process = r .process .0; call = callOf (r .kind) r; returned = returnedOf (r .answered .0) r }
+
+-- ---- the counted repliers are the processes in `responses`
+
+abbrev pub replier : Reply → ℕ
+replier (Reply.pair tsv j) = j
+replier (Reply.only j) = j
+
+abbrev pub hasReplied : ℕ → List Reply → Bool
+hasReplied j [] = false
+hasReplied j (a ∷ rest) = eqb (replier a) j || hasReplied j rest
+
+pub record SameReplies (repliers : ℕ) (responses : List Reply) : Type 0 where
+  pub each : (j : ℕ) → j ≤ 7 → member repliers j ≡ hasReplied j responses
+  pub many : counted repliers ≡ length responses
+
+-- ---- the phase: best pair so far, pair sent, register and kind of the operation
+
+abbrev pub isRead : Kind → Bool
+isRead Read = true
+isRead Write = false
+
+abbrev pub SamePhase : State → Phase → Process → Type 0
+SamePhase s Idle q = q .responses ≡ []
+SamePhase s (Querying row best) q = (q .reading ≡ true) × (q .rreg ≡ rowOf s row .register) × (maxOf (q .responses) ≡ tsvOf best)
+SamePhase s (Updating row sent) q = (q .reading ≡ isRead (rowOf s row .kind)) × (q .tsv ≡ tsvOf sent) × (q .reading ≡ true → q .rval ≡ sent .value)
+
+pub record SameProcess (s : State) (r : Replica) (q : Process) : Type 0 where
+  pub clock : r .clock .0 ≡ q .lt
+  pub number : r .rid .0 ≡ q .rid
+  pub store : (x : ℕ) → 1 ≤ x → x ≤ s .m → tsvOf (stored r x) ≡ q .tvps x
+  pub replies : SameReplies (r .repliers) (q .responses)
+  pub phase : SamePhase s (r .phase) q
+
+pub record Same (s : State) (a : System) : Type 0 where
+  pub size : s .n ≡ a .n
+  pub processes : (p : ℕ) → 1 ≤ p → p ≤ s .n → SameProcess s (replicaOf s p) (a .processes p)
+  pub down : (p : ℕ) → 1 ≤ p → p ≤ s .n → replicaOf s p .crashed ≡ a .crashed p
+  pub flight : map packetOf (s .flight) ≡ a .transit
+  pub history : map operationOf (s .rows) ≡ a .history
