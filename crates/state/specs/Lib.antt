@@ -6,11 +6,28 @@ pub mod Tabled
 pub mod Reached
 pub mod Counting
 pub mod ClockGrowth
--- Laws
+-- What an accepted event does
 pub mod Follows
 pub mod FollowsLaws
+pub mod Accepted
 pub mod Refusals
+-- Counts and clocks
 pub mod CountingLaws
 pub mod ClockGrowthLaws
+-- Every accepted event keeps what is well formed
+pub mod EveryLaws
+pub mod FlightLaws
+pub mod PendingLaws
+pub mod PairLaws
+pub mod WellLaws
+pub mod LaterLaws
+pub mod KeepsMoved
+pub mod KeepsInvoke
+pub mod KeepsCrash
+pub mod Quiet
+pub mod KeepsDeliver
+pub mod Keeps
+pub mod Inside
+pub mod Sized
 -- What they compute to
 pub mod Examples

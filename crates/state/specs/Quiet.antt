@@ -1,0 +1,189 @@
+-- The answers to a message that end no operation: in a well-formed state what the plain rules make of the replica, and what they send, fit one event
+-- later.
+use Prim.Native.Nat.{ℕ, _+_, _-_, _≤_}
+use mathlib.Core.Path.{_≡_, refl, ap, _∙_}
+use mathlib.Core.Bool.{Bool, true, false, cond}
+use native.Mathlib.Omega.{arith}
+use lib.Dec.{eqb, leb}
+use lib.ListN.{length-set}
+use borrow.Author.Tests.{leb-false}
+use Rattle.words.specs.declared.Body.the-variants.{Update}
+use Rattle.words.specs.declared.Message.{Message}
+use Rattle.words.specs.declared.Pair.{Pair}
+use Rattle.words.specs.Quorum.{joined, counted, majorityOf}
+use Rattle.words.specs.QuorumLaws.{inside-empty, joined-inside, counted-empty}
+use Rattle.words.specs.Ranges.{pairFits}
+use Rattle.words.specs.Stamps.{newer}
+use Rattle.replica.specs.declared.Answer.{Answer}
+use Rattle.replica.specs.declared.Counts.the-variants.{Not, For}
+use Rattle.replica.specs.declared.Ended.the-variants.{Pending}
+use Rattle.replica.specs.declared.Phase.{Phase}
+use Rattle.replica.specs.declared.Phase.the-variants.{Idle, Querying, Updating}
+use Rattle.replica.specs.declared.Sends.the-variants.{Nothing}
+use Rattle.replica.specs.Clock.{after}
+use Rattle.replica.specs.ClockLaws.{after-least}
+use Rattle.replica.specs.Handlers.{accepted, broadcastOf, stored, discarded, moved as placed}
+use Rattle.replica.specs.Handlers.{queryRule, updateRule, responseCounts, responseCounted, responseTaken, responseRule}
+use Rattle.state.specs.State.{State, replicaOf, rowOf}
+use Rattle.state.specs.Step.{askedRegister}
+use Rattle.state.specs.WellFormed.{pairsFit}
+use Rattle.state.specs.EveryLaws.{both}
+use Rattle.state.specs.KeepsMoved.{SendsOk}
+use Rattle.state.specs.LaterLaws.{Later, kept-rows, replica-later, pair-later, pairs-later}
+use Rattle.state.specs.PairLaws.{Within, ok-within, pair-newer, pairs-set}
+use Rattle.state.specs.WellLaws.{MessageOk, PhaseOk, ReplicaOk, Well, stored-at, asked-at}
+
+-- one event later, and nothing else
+abbrev pub ahead : State → State
+ahead s =
+    record {
+      n = s .n;
+      m = s .m;
+      accepted = s .accepted + 1;
+      sent = s .sent;
+      delivered = s .delivered;
+      lost = s .lost;
+      replicas = s .replicas;
+      flight = s .flight;
+      rows = s .rows;
+    }
+
+pub ahead-later : (s : State) → Later s (ahead s)
+ahead-later s = record { same-n = refl; same-m = refl; more = omega arith }
+
+pub record Quiet (s : State) (p : ℕ) (answer : Answer) : Type 0 where
+  pub own : ReplicaOk (ahead s) p (answer .replica)
+  pub sends : SendsOk (ahead s) (answer .sends)
+  pub ended : answer .ended ≡ Pending
+
+-- a message to p, received in a well-formed state
+module _ (s : State) (w : Well s) (p : ℕ) (actor : Within p (s .n)) (x : Message) (k : MessageOk s x) where
+  pub received-clock : after (replicaOf s p .clock .0) (x .time .0) ≤ s .accepted + 1
+  received-clock = after-least (w .replica p actor .clock) (k .time)
+
+  pub own-later : ReplicaOk (ahead s) p (replicaOf s p)
+  own-later = replica-later s (ahead s) (ahead-later s) p (kept-rows s (ahead s) p refl) (replicaOf s p) (w .replica p actor)
+
+  pub discarded-quiet : Quiet s p (discarded (replicaOf s p))
+  discarded-quiet = record { own = own-later; sends = tt; ended = refl }
+
+  stored-fits : (y : ℕ) → Within y (s .m) → pairFits (s .accepted + 1) (s .n) (stored (replicaOf s p) y) ≡ true
+  stored-fits y l = pair-later s (ahead s) (ahead-later s) (stored (replicaOf s p) y) (stored-at s w p y actor l)
+
+  pub query-quiet : (y : ℕ) → Within y (s .m) → Quiet s p (queryRule (replicaOf s p) (x .from) (x .time) (x .rid) y)
+  unfolding queryRule
+  query-quiet y l =
+      record {
+        own =
+            record {
+              clock = received-clock;
+              rid = own-later .rid;
+              sixteen = own-later .sixteen;
+              pairs = own-later .pairs;
+              inside = own-later .inside;
+              few = own-later .few;
+              phase = own-later .phase;
+            };
+        sends = (k .sender, record { time = received-clock; rid = omega (arith, k .rid); body = stored-fits y l });
+        ended = refl;
+      }
+
+  pub update-quiet : (y : ℕ) (pair : Pair) → Within y (s .m) → pairFits (s .accepted) (s .n) pair ≡ true
+      → Quiet s p (updateRule (replicaOf s p) (x .from) (x .time) (x .rid) y pair)
+  unfolding updateRule
+  update-quiet y pair l f =
+      record {
+        own =
+            record {
+              clock = received-clock;
+              rid = own-later .rid;
+              sixteen = length-set (replicaOf s p .pairs) (y - 1) (newer (stored (replicaOf s p) y) pair) ∙ own-later .sixteen;
+              pairs =
+                  pairs-set (ahead s) (s .m) (replicaOf s p .pairs) (y - 1) (newer (stored (replicaOf s p) y) pair) (own-later .pairs)
+                  (omega (arith, l .least, l .most))
+                  (pair-newer (s .accepted + 1) (s .n) (stored (replicaOf s p) y) pair (stored-fits y l) (pair-later s (ahead s) (ahead-later s) pair f));
+              inside = own-later .inside;
+              few = own-later .few;
+              phase = own-later .phase;
+            };
+        sends = (k .sender, record { time = received-clock; rid = omega (arith, k .rid); body = refl });
+        ended = refl;
+      }
+
+  -- ---- a replica that moved on: its set is empty, or has one more and is no majority yet
+
+  pub own-emptied : (t : State) → Later (ahead s) t → (phase : Phase) → PhaseOk t p phase 0
+      → ReplicaOk t p (placed (replicaOf s p) (after (replicaOf s p .clock .0) (x .time .0)) (replicaOf s p .rid .0 + 1) phase 0 (replicaOf s p .pairs))
+  own-emptied t l phase o =
+      record {
+        clock = omega (arith, received-clock, l .more);
+        rid = omega (arith, w .replica p actor .rid, l .more);
+        sixteen = own-later .sixteen;
+        pairs =
+            ap (λ (left : ℕ). pairsFit t left (replicaOf s p .pairs)) (l .same-m)
+            ∙ pairs-later (ahead s) t l (s .m) (replicaOf s p .pairs) (own-later .pairs);
+        inside = inside-empty (t .n);
+        few = omega (arith, counted-empty);
+        phase = o;
+      }
+
+  pub own-joined : (phase : Phase) → PhaseOk (ahead s) p phase (joined (replicaOf s p .repliers) (x .from .0))
+      → leb (majorityOf (s .n)) (counted (joined (replicaOf s p .repliers) (x .from .0))) ≡ false
+      → ReplicaOk (ahead s) p
+      (placed (replicaOf s p) (after (replicaOf s p .clock .0) (x .time .0)) (replicaOf s p .rid .0) phase (joined (replicaOf s p .repliers) (x .from .0)) (replicaOf s p .pairs))
+  own-joined phase o few =
+      record {
+        clock = received-clock;
+        rid = own-later .rid;
+        sixteen = own-later .sixteen;
+        pairs = own-later .pairs;
+        inside = joined-inside (s .n) (replicaOf s p .repliers) (x .from .0) (k .sender .least) (k .sender .most) (w .processes .most) (own-later .inside);
+        few = leb-false (majorityOf (s .n)) (counted (joined (replicaOf s p .repliers) (x .from .0))) few;
+        phase = o;
+      }
+
+  -- ---- a response
+
+  counted-quiet : (row : ℕ) (best : Pair) → PhaseOk (ahead s) p (Querying row best) 0
+      → Quiet s p (responseCounted (replicaOf s p) (s .n) (rowOf s row .register) (x .from) (x .time) row best)
+  unfolding responseCounted
+  counted-quiet row best o = go (leb (majorityOf (s .n)) (counted (joined (replicaOf s p .repliers) (x .from .0)))) refl
+    where
+      time : ℕ
+      time = after (replicaOf s p .clock .0) (x .time .0)
+
+      go : (b : Bool) → leb (majorityOf (s .n)) (counted (joined (replicaOf s p .repliers) (x .from .0))) ≡ b
+          → Quiet s p (cond b
+          (accepted (placed (replicaOf s p) time (replicaOf s p .rid .0 + 1) (Updating row best) 0 (replicaOf s p .pairs))
+          (broadcastOf time (replicaOf s p .rid .0 + 1) (Update (rowOf s row .register) best)) Pending)
+          (accepted (placed (replicaOf s p) time (replicaOf s p .rid .0) (Querying row best) (joined (replicaOf s p .repliers) (x .from .0)) (replicaOf s p .pairs))
+          Nothing Pending))
+      go true e =
+          record {
+            own = own-emptied (ahead s) (record { same-n = refl; same-m = refl; more = omega arith }) (Updating row best) (o .0, o .2);
+            sends =
+                record {
+                  time = received-clock;
+                  rid = omega (arith, w .replica p actor .rid);
+                  body = both (ok-within (asked-at s w p row (o .0))) (o .2);
+                };
+            ended = refl;
+          }
+      go false e = record { own = own-joined (Querying row best) o e; sends = tt; ended = refl }
+
+  pub response-quiet : (pair : Pair) → pairFits (s .accepted) (s .n) pair ≡ true
+      → Quiet s p (responseRule (replicaOf s p) (s .n) (askedRegister s (replicaOf s p .phase)) (x .from) (x .time) (x .rid) pair)
+  unfolding responseRule
+  response-quiet pair f = go (replicaOf s p .phase) (own-later .phase)
+    where
+      go : (phase : Phase) → PhaseOk (ahead s) p phase (replicaOf s p .repliers)
+          → Quiet s p (responseTaken (responseCounts phase (replicaOf s p .rid) (x .rid)) (replicaOf s p) (s .n) (askedRegister s phase) (x .from) (x .time) pair)
+      go Idle o = discarded-quiet
+      go (Querying row best) o = case (eqb (x .rid .0) (replicaOf s p .rid .0))
+        where
+          case : (b : Bool) → Quiet s p (responseTaken (cond b (For row best) Not) (replicaOf s p) (s .n) (rowOf s row .register) (x .from) (x .time) pair)
+          case true =
+              counted-quiet row (newer best pair)
+              (o .0, o .1, pair-newer (s .accepted + 1) (s .n) best pair (o .2) (pair-later s (ahead s) (ahead-later s) pair f))
+          case false = discarded-quiet
+      go (Updating row sent) o = discarded-quiet
