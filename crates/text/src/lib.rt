@@ -1,0 +1,1 @@
+// The text of a replay, written into a lent buffer.
