@@ -55,5 +55,7 @@ pub record Demand2 (f : State → Event → Outcome) : Type 0 where
   -- complete: a step of the algorithm within the limits is accepted, by an event that names it, and the two are the same again
   pub complete : (s : State) (a : System) (action : Action) → ReachedBy f s → Same s a → Enabled a action → Within s a action
       → (e : Event) × Names s e action × (f s e .refusal ≡ 0) × Same (f s e .state) (taken a action)
+  -- what `Within` reads of the bench and `Same` does not tell: an accepted event is counted once, and the registers stay
+  pub counted : (s : State) (e : Event) → ReachedBy f s → f s e .refusal ≡ 0 → (f s e .state .accepted ≡ s .accepted + 1) × (f s e .state .m ≡ s .m)
   -- a refused event changes nothing
   pub refused : (s : State) (e : Event) → ReachedBy f s → (f s e .refusal ≡ 0 → ⊥) → f s e .state ≡ s

@@ -1,4 +1,41 @@
+-- What a reader has to believe
 pub mod Algorithm1
 pub mod System
 pub mod Same
 pub mod Demand2
+-- What is proved
+pub mod Theorem
+pub mod Corollaries
+pub mod Impostors
+-- Lists, places, packets, rows
+pub mod Lists
+pub mod Places
+pub mod Numbering
+pub mod Packets
+pub mod Histories
+pub mod Idle
+pub mod Answers
+-- Request numbers
+pub mod RequestNumbers
+pub mod RequestNumbersMove
+pub mod RequestNumbersKept
+pub mod RequestNumbersReached
+-- Bench and system stay the same
+pub mod SameMove
+pub mod SameInvocation
+pub mod SameRequest
+pub mod Repliers
+pub mod SameResponse
+pub mod SameAck
+pub mod SameReceipt
+pub mod SameFailure
+-- Sound and complete
+pub mod Sound
+pub mod Allowed
+pub mod Complete
+-- Who has replied, and what completes an operation
+pub mod Replied
+pub mod RepliedKept
+pub mod Completion
+-- Runs of any bench
+pub mod Along

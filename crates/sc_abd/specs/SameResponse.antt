@@ -1,0 +1,205 @@
+-- A response is received: it counts for us exactly when it does for the algorithm, and then both do lines 8 to 15.
+use Prim.Native.Nat.{ℕ, _+_, _≤_, _<_, max}
+use mathlib.Core.Path.{_≡_, refl, sym, ap, ap₂, subst, subst₂, _∙_}
+use mathlib.Core.Logic.{_≢_}
+use mathlib.Core.Bool.{Bool, true, false, cond}
+use mathlib.Core.List.{List, [], _∷_, _++_}
+use native.Mathlib.Decide.{ℕ-discrete}
+use native.Mathlib.Omega.{arith}
+use lib.Dec.{eqb}
+use lib.ListN.{length}
+use borrow.Author.Tests.{eq-eqb, ne-eqb}
+use Rattle.words.specs.declared.Body.the-variants.{Response}
+use Rattle.words.specs.declared.Message.{Message}
+use Rattle.words.specs.declared.Pair.{Pair}
+use Rattle.words.specs.Stamps.{newer}
+use Rattle.words.specs.Quorum.{member}
+use Rattle.replica.specs.declared.Answer.{Answer}
+use Rattle.replica.specs.declared.Phase.{Phase}
+use Rattle.replica.specs.declared.Phase.the-variants.{Idle, Querying, Updating}
+use Rattle.replica.specs.declared.Replica.{Replica}
+use Rattle.replica.specs.Handlers.{discarded, responseCounts, responseTaken, responseRule}
+use Rattle.tables.specs.declared.Kind.{Kind}
+use Rattle.tables.specs.declared.Kind.the-variants.{Read, Write}
+use Rattle.tables.specs.Tables.{removed}
+use Rattle.state.specs.State.{State, replicaOf, rowOf, pointed}
+use Rattle.state.specs.Step.{moved, messageOf, answeredRows, askedRegister}
+use Rattle.state.specs.WellFormed.{isWrite}
+use Rattle.state.specs.Accepted.{messageAt}
+use Rattle.state.specs.PairLaws.{Within}
+use Rattle.state.specs.WellLaws.{PhaseOk, Well, message-at}
+use Rattle.sc_abd.specs.Algorithm1.{Tsv, Content, Process, Reply, Done, bcast, join, maxTsv, maxOf, majority}
+use Rattle.sc_abd.specs.Algorithm1.{unhandled, responseCounted as paperCounted, onResponse}
+use Rattle.sc_abd.specs.System.{System}
+use Rattle.sc_abd.specs.Same.{tsvOf, isRead, SamePhase, SameProcess, Same}
+use Rattle.sc_abd.specs.Answers.{isMajority, chosen, asking, response-answers}
+use Rattle.sc_abd.specs.Packets.{packets-sent}
+use Rattle.sc_abd.specs.Repliers.{none-replied, joins, one-more, majority-test, max-more}
+use Rattle.sc_abd.specs.RequestNumbers.{Stage, stageOf, stageFor, Numbered}
+use Rattle.sc_abd.specs.RequestNumbersKept.{not-counted, present-stage}
+use Rattle.sc_abd.specs.SameRequest.{bench, system, own, same-received, still, clock-after, tsv-newer}
+
+-- the bench after the message at place i was received by p with this answer, its row answered
+abbrev pub nextBy : State → ℕ → ℕ → Answer → State
+nextBy s i p answer =
+    moved s p answer (removed i (s .flight)) (s .delivered + 1) (answeredRows (s .rows) (pointed (replicaOf s p .phase)) (answer .ended))
+
+read-kind : (k : Kind) → isWrite k ≡ false → isRead k ≡ true
+read-kind Read e = refl
+read-kind Write e = sym e
+
+idle-not-querying : Stage.idle ≡ Stage.querying → ⊥
+idle-not-querying e = let z : _≡_ {A = ℕ} 0 1 = cc in omega arith
+
+updating-not-querying : Stage.updating ≡ Stage.querying → ⊥
+updating-not-querying e = let z : _≡_ {A = ℕ} 0 1 = cc in omega arith
+
+-- ---- which rule is taken
+
+module _ (r : Replica) (n : ℕ) (m : Message) (pair : Pair) where
+  pub response-not : (x : ℕ) → m .rid .0 ≢ r .rid .0 → responseRule r n x (m .from) (m .time) (m .rid) pair ≡ discarded r
+  unfolding responseRule
+  response-not x f = go (r .phase)
+    where
+      go : (phase : Phase) → responseTaken (responseCounts phase (r .rid) (m .rid)) r n x (m .from) (m .time) pair ≡ discarded r
+      go Idle = refl
+      go (Querying row best) = rw (ne-eqb (m .rid .0) (r .rid .0) f) refl
+      go (Updating row sent) = refl
+
+  response-for : (s : State) (row : ℕ) (best : Pair) → r .phase ≡ Querying row best → m .rid .0 ≡ r .rid .0
+      → responseRule r n (askedRegister s (r .phase)) (m .from) (m .time) (m .rid) pair
+      ≡ cond (isMajority n r (m .from)) (chosen r (rowOf s row .register) (m .time) row (newer best pair)) (asking r (m .from) (m .time) row (newer best pair))
+  unfolding responseRule
+  response-for s row best f e =
+      ap (λ phase. responseTaken (responseCounts phase (r .rid) (m .rid)) r n (askedRegister s phase) (m .from) (m .time) pair) f
+      ∙ rw (eq-eqb (m .rid .0) (r .rid .0) e) (response-answers r n (rowOf s row .register) (m .from) (m .time) row (newer best pair))
+
+-- the same of the algorithm, by its own test
+paper-not : (n i : ℕ) (q : Process) (j lt rid : ℕ) (tsv : Tsv) → q .rid ≢ rid → onResponse n i q j lt rid tsv ≡ unhandled q
+paper-not n i q j lt rid tsv f = rw (ne-eqb (q .rid) rid f) refl
+
+paper-for : (n i : ℕ) (q : Process) (j lt rid : ℕ) (tsv : Tsv) (responses : List Reply) → q .rid ≡ rid → join (q .responses) (Reply.pair tsv j) ≡ responses
+    → onResponse n i q j lt rid tsv ≡ paperCounted n i q (max (q .lt) lt + 1) responses
+paper-for n i q j lt rid tsv responses e f = rw (eq-eqb (q .rid) rid e, f) refl
+
+-- ---- the message at place i, a reply to p
+
+module _ (s : State) (w : Well s) (n : Numbered s) (a : System) (same : Same s a) (i : ℕ) (l : i < length (s .flight)) (p : ℕ) (actor : Within p (s .n))
+    (to : messageAt s i .to .0 ≡ p) where
+  -- one that does not count changes nothing
+  pub same-discarded : Same (bench s i p (discarded (replicaOf s p))) (system a i p (unhandled (a .processes p)))
+  same-discarded =
+      same-received s w a same i p actor (discarded (replicaOf s p)) (unhandled (a .processes p)) refl (still s w a same i p actor (discarded (replicaOf s p)))
+      refl refl
+
+  pub sender-small : messageAt s i .from .0 ≤ 7
+  sender-small = omega (arith, message-at s w i l .sender .most, w .processes .most)
+
+  module _ (pair : Pair) (is : messageAt s i .body ≡ Response pair) where
+    abbrev Meets : Answer → Done → Type 0
+    Meets answer done = Same (nextBy s i p answer) (system a i p done)
+
+    abbrev ours : Answer
+    ours =
+        responseRule (replicaOf s p) (s .n) (askedRegister s (replicaOf s p .phase))
+        (messageAt s i .from) (messageAt s i .time) (messageAt s i .rid) pair
+
+    abbrev theirs : Done
+    theirs = onResponse (s .n) p (a .processes p) (messageAt s i .from .0) (messageAt s i .time .0) (messageAt s i .rid .0) (tsvOf pair)
+
+    module _ (row : ℕ) (best : Pair) (f : replicaOf s p .phase ≡ Querying row best) (e : messageAt s i .rid .0 ≡ replicaOf s p .rid .0) where
+      counts : Meets ours theirs
+      counts =
+          subst₂ Meets (sym (response-for r (s .n) m pair s row best f e))
+          (sym (paper-for (s .n) p q (m .from .0) (m .time .0) (m .rid .0) (tsvOf pair) after (sym (mine .number) ∙ sym e)
+          (joins (r .repliers) (q .responses) (mine .replies) reply sender-small new)))
+          (go (isMajority (s .n) r (m .from)) refl)
+        where
+          m : Message
+          m = messageAt s i
+
+          r : Replica
+          r = replicaOf s p
+
+          q : Process
+          q = a .processes p
+
+          mine : SameProcess s r q
+          mine = own s w a same i p actor
+
+          reply : Reply
+          reply = Reply.pair (tsvOf pair) (m .from .0)
+
+          after : List Reply
+          after = q .responses ++ (reply ∷ [])
+
+          newest : Pair
+          newest = newer best pair
+
+          new : member (r .repliers) (m .from .0) ≡ false
+          new = not-counted s (w .seven) n i l p (actor .least) (omega (arith, actor .most, w .processes .most)) to (rw is refl) e
+
+          phase : SamePhase s (Querying row best) q
+          phase = subst (λ ph. SamePhase s ph q) f (mine .phase)
+
+          kind : isRead (rowOf s row .kind) ≡ true
+          kind = read-kind (rowOf s row .kind) (subst (λ ph. PhaseOk s p ph (r .repliers)) f (w .replica p actor .phase) .1)
+
+          greatest : maxOf after ≡ tsvOf newest
+          greatest = max-more (q .responses) (tsvOf pair) (m .from .0) ∙ ap (λ v. maxTsv v (tsvOf pair)) (phase .2) ∙ sym (tsv-newer best pair)
+
+          test : eqb (length after) (majority (s .n)) ≡ isMajority (s .n) r (m .from)
+          test = majority-test (r .repliers) (q .responses) (mine .replies) reply sender-small new (s .n) (w .replica p actor .few)
+
+          clock : max (r .clock .0) (m .time .0) + 1 ≡ max (q .lt) (m .time .0) + 1
+          clock = clock-after s w a same i p actor m
+
+          go : (b : Bool) → isMajority (s .n) r (m .from) ≡ b
+              → Meets (cond b (chosen r (rowOf s row .register) (m .time) row newest) (asking r (m .from) (m .time) row newest))
+              (paperCounted (s .n) p q (max (q .lt) (m .time .0) + 1) after)
+          go true h =
+              rw (test ∙ h)
+              (same-received s w a same i p actor (chosen r (rowOf s row .register) (m .time) row newest) _ refl
+              (record {
+                clock = clock;
+                number = ap (λ t. t + 1) (mine .number);
+                store = mine .store;
+                replies = none-replied;
+                phase = (phase .0 ∙ sym kind, greatest, λ t. ap (λ (v : Tsv). v .value) greatest);
+              })
+              (packets-sent (s .n) (messageOf (s .sent + 1) p 1 _)
+              ∙ ap₂ (λ t u. bcast (s .n) p (Content.update t (u + 1) (rowOf s row .register) (tsvOf newest))) clock (mine .number)
+              ∙ ap₂ (λ x v. bcast (s .n) p (Content.update (max (q .lt) (m .time .0) + 1) (q .rid + 1) x v)) (sym (phase .1)) (sym greatest))
+              refl)
+          go false h =
+              rw (test ∙ h)
+              (same-received s w a same i p actor (asking r (m .from) (m .time) row newest) _ refl
+              (record {
+                clock = clock;
+                number = mine .number;
+                store = mine .store;
+                replies = one-more (r .repliers) (q .responses) (mine .replies) reply sender-small new;
+                phase = (phase .0, phase .1, greatest);
+              })
+              refl refl)
+
+    pub same-response : Meets ours theirs
+    same-response =
+        elim (ℕ-discrete (messageAt s i .rid .0) (replicaOf s p .rid .0)) [
+          | yes e ↦ querying (replicaOf s p .phase) refl e
+          | no f ↦
+              subst₂ Meets (sym (response-not (replicaOf s p) (s .n) (messageAt s i) pair _ f))
+              (sym (paper-not (s .n) p (a .processes p) (messageAt s i .from .0) (messageAt s i .time .0) (messageAt s i .rid .0) (tsvOf pair)
+              (λ e. f (sym (own s w a same i p actor .number ∙ e)))))
+              same-discarded
+        ]
+      where
+        stage : messageAt s i .rid .0 ≡ replicaOf s p .rid .0 → stageOf (replicaOf s p .phase) ≡ Stage.querying
+        stage e =
+            present-stage s (w .seven) n i l p (actor .least) (omega (arith, actor .most, w .processes .most)) to (rw is refl) e ∙ ap stageFor is
+
+        querying : (phase : Phase) → replicaOf s p .phase ≡ phase → messageAt s i .rid .0 ≡ replicaOf s p .rid .0
+            → Meets ours theirs
+        querying (Querying row best) g e = counts row best g e
+        querying Idle g e = absurd (idle-not-querying (ap stageOf (sym g) ∙ stage e))
+        querying (Updating row sent) g e = absurd (updating-not-querying (ap stageOf (sym g) ∙ stage e))
