@@ -1,0 +1,90 @@
+-- Every state that accepted events give from a fresh start is sound, beside what its processes held.
+use Prim.Native.Nat.{ℕ, zero, suc, _-_, _≤_}
+use mathlib.Core.Path.{_≡_, refl, sym, ap, _∙_}
+use mathlib.Core.List.{List·Memᴰ·not-nil}
+use mathlib.Core.Logic.{inl}
+use native.Mathlib.Omega.{arith}
+use lib.ListN.{length, getD, replicate}
+use Rattle.words.specs.declared.Pair.{Pair}
+use Rattle.words.specs.RangeLaws.{within-most}
+use Rattle.words.specs.Stamps.{startPair, startStamp}
+use Rattle.words.specs.StampLaws.{atMost-reflexive}
+use Rattle.words.specs.QuorumLaws.{inside-empty}
+use Rattle.replica.specs.declared.Replica.{Replica}
+use Rattle.state.specs.State.{State, freshReplica, fresh, replicaOf}
+use Rattle.state.specs.Step.{step}
+use Rattle.state.specs.Reached.{Reached}
+use Rattle.state.specs.Reached.Reached.{start, next}
+use Rattle.consistency.specs.Held.{Held, heldIn, heldAfter}
+use Rattle.consistency.specs.Moves.{Move}
+use Rattle.consistency.specs.MoveLaws.{moves}
+use Rattle.consistency.specs.Sound.{Sound}
+use Rattle.consistency.specs.MoveKept.{move-kept}
+use Rattle.consistency.specs.StoresKept.{move-stores}
+use Rattle.consistency.specs.WaitsKept.{move-waits, now-idle}
+use Rattle.consistency.specs.FlightKept.{move-flight}
+use Rattle.consistency.specs.EntriesKept.{move-entered}
+use Rattle.consistency.specs.TurnsKept.{move-turns}
+
+-- ---- a fresh start
+
+replicate-at : {A : Type 0} (n i : ℕ) (a : A) → getD (replicate n a) i a ≡ a
+replicate-at zero i a = refl
+replicate-at (suc n) zero a = refl
+replicate-at (suc n) (suc i) a = replicate-at n i a
+
+module _ (n m : ℕ) where
+  fresh-replica : (q : ℕ) → replicaOf (fresh n m) q ≡ freshReplica
+  fresh-replica q = replicate-at 7 (q - 1) freshReplica
+
+  fresh-pair : (q j : ℕ) → getD (replicaOf (fresh n m) q .pairs) j startPair ≡ startPair
+  fresh-pair q j = ap (λ (r : Replica). getD (r .pairs) j startPair) (fresh-replica q) ∙ replicate-at 16 j startPair
+
+  fresh-sound : n ≤ 7 → m ≤ 16 → Sound (fresh n m) (λ k time x. startStamp)
+  fresh-sound few registers =
+      record {
+        sized = record { few = few; registers = registers; seven = refl };
+        recalls = record {
+          now = λ k time x first l. sym (ap (λ (p : Pair). p .stamp) (fresh-pair k (x - 1)));
+          rising = λ k x a b first l. atMost-reflexive startStamp;
+        };
+        stores = λ q first. record {
+          sixteen = ap (λ (r : Replica). length (r .pairs)) (fresh-replica q);
+          early = λ j. omega (arith, ap (λ (p : Pair). p .stamp .time .0) (fresh-pair q j));
+          source = λ j. inl (fresh-pair q j);
+        };
+        waits = λ q first. now-idle (fresh n m) (λ k time x. startStamp) q freshReplica (fresh-replica q) (inside-empty n) refl refl;
+        flight = λ message f. absurd (List·Memᴰ·not-nil f);
+        rows = λ j l. absurd (omega arith);
+        turns = record { pending = λ j l. absurd (omega arith); inTurn = λ i j l k. absurd (omega arith) };
+      }
+
+-- ---- a move
+
+move-sound : {s t : State} {held : Held} → Sound s held → Move s t → Sound t (heldAfter held t)
+move-sound {t = t} sound move =
+    let kept = move-kept sound move in
+    record {
+      sized = record {
+        few = rw (kept .processes) (sound .sized .few);
+        registers = rw (kept .registers) (sound .sized .registers);
+        seven = kept .replicas ∙ sound .sized .seven;
+      };
+      recalls = kept .recalls;
+      stores = move-stores sound kept move;
+      waits = move-waits sound kept move;
+      flight = move-flight sound kept move;
+      rows = move-entered sound kept move;
+      turns = move-turns t sound move;
+    }
+
+pub reached-sound : {s : State} (r : Reached s) → Sound s (heldIn r)
+unfolding heldIn
+reached-sound (start n m f g) = fresh-sound n m (within-most n 7 f) (within-most m 16 g)
+reached-sound (next s e r z) = continued (reached-sound r)
+  where
+    continued : Sound s (heldIn r) → Sound (step s e .state) (heldAfter (heldIn r) (step s e .state))
+    continued sound =
+        let few = sound .sized .few in
+        let move = moves s (sound .sized .seven) few (λ message m. let c = sound .flight message m in (c .to-first, omega (arith, c .to-last))) e z in
+        move-sound sound move
