@@ -16,3 +16,4 @@ pub mod SoundLaws
 pub mod Entries
 pub mod FactsLaws
 pub mod Demand3
+pub mod Alone

@@ -32,7 +32,7 @@ from-fresh f d events ok = along f d (fresh 2 1) (started 2) events (start 2 1 r
 
 -- ---- every event refused: a read may begin
 
-pub refusesAll : State → Event → Outcome
+unfoldable pub refusesAll : State → Event → Outcome
 refusesAll s e = record { refusal = 1; state = s }
 
 pub refusesAll-fails : Demand2 refusesAll → ⊥
@@ -45,7 +45,7 @@ refusesAll-fails d =
 
 -- ---- every event accepted, the state as it was: a process that crashed is still up
 
-pub doesNothing : State → Event → Outcome
+unfoldable pub doesNothing : State → Event → Outcome
 doesNothing s e = record { refusal = 0; state = s }
 
 pub doesNothing-fails : Demand2 doesNothing → ⊥
@@ -55,7 +55,7 @@ doesNothing-fails d =
 
 -- ---- the first event honestly, then every event accepted and only counted: the second crash does not happen
 
-abbrev countedOnly : State → State
+abbrev pub countedOnly : State → State
 countedOnly s =
     record {
       n = s .n;
@@ -69,7 +69,7 @@ countedOnly s =
       rows = s .rows;
     }
 
-pub firstHonest : State → Event → Outcome
+unfoldable pub firstHonest : State → Event → Outcome
 firstHonest s e = cond (eqb (s .accepted) 0) (step s e) (record { refusal = 0; state = countedOnly s })
 
 pub firstHonest-fails : Demand2 firstHonest → ⊥

@@ -36,7 +36,7 @@ start-same n m =
       history = refl;
     }
 
-reached : {s : State} → ReachedBy step s → Reached s
+pub reached : {s : State} → ReachedBy step s → Reached s
 reached (ReachedBy.start n m e f) = Reached.start n m e f
 reached (ReachedBy.next s e r z) = Reached.next s e (reached r) z
 
