@@ -8,18 +8,21 @@ A description is a Python file that sets
   lib                 the crate that has Row, Calls, Callees, .. (default: crate). Another crate's are named through its facade
   callees             (function, its contract's name in Callees.antt, and its crate where that isn't lib) for each callee
   calls               the names to import from Callees.antt
+  lead                how many plain parameters stand before the slices (default 0; 1 with two slices and none after them is done)
   requires            a list of facts, in terms of the parameters' names (n is the slice's count), or [] for none
   exits               text after `exits` 's signature: see below
   walk                the walk's body, with macros (below)
   uses                further `use` lines (of your specs, Flow, Lists, ..)
   loop                True where the walk takes a `Tables` 𝓣: it has a loop, or an arm that ends in a call (`lasts`)
+  structs             further structs as parameters, {'Limits': 'Rattle.judge.specs.declared.Limits', ..}: the kind is the struct's name, its facts are in the module OfLimits of the crate's proofs (R, val, vals, tells, typed, makes, imported as RLimits, valLimits, ..); where that module is another crate's, a pair: its record's module, and that module's full name
+  own                 the names of Callees.antt of the crate itself, beside MessageCalls and RowCalls of lib. A callee in a module is named with a dot: ('messages.scan_message', 'ScanMessage', 'judge')
   root                the repository (default: the folder above this one)        second   the struct of R₂ (default Entry; its module is Row<second>)
 Macros in walk, where _i is a local's number; positions are right while the context is [slice; token; true; what the others own; locals]:
   @p(i)               the position of local i
   @ld(i)              an operand: copy of local i               @fld(i,k)   copy of field k of local i
   @set(i,RV,WT);      assigns ! RV to local i, with WT its typing
   @reborrow(j,k,i);   _j = &[mut] *_i.0 ; _k = (_j, _i.1)
-  @args(i,j,..)       the operands of a call, as calls-* take them
+  @args(i,j.k,..)     the operands of a call, as calls-* take them: a local, or field k of one
   @again(i,RV,WT);    the same where local i holds something already
   @hoist(i); @lower(i);   local i's cell goes next to the slice, for `whiles2`, and back to its place        @forget(i,j,..);
   @args2(i,j,..)      the same for a callee of two slices
@@ -33,6 +36,11 @@ d={}
 exec(open(sys.argv[1]).read(),d)
 crate,fn,params,N=d['crate'],d['fn'],d['params'],d['locals']
 lib=d.get('lib',crate)
+ST=d.get('structs',{})
+own=d.get('own',[])
+given=set(re.findall(r'[^\s,{}]+',d.get('uses','')))|set(own)
+base=lambda c:c.split('.')[-1].replace('_','-')
+sym=lambda c:c.replace('.','·').replace('_','-')
 PL=lambda c:f'Rattle.{c}.proofs' if c==crate else f'Rattle.{c}.proofs'
 SL=lambda c:f'Rattle.{c}.specs' if c==crate else f'Rattle.{c}.specs'
 name=fn.replace('_','-')
@@ -41,45 +49,53 @@ W={'usize':'w64','u64':'w64','u32':'w32','u16':'w16','u8':'w8'}
 SW={'isize':'w64','i64':'w64','i32':'w32','i16':'w16','i8':'w8'}
 sl=params[0][1]
 var=[p[0] for p in params]
-def row(k): return k
+def row(k): return 'R'+k if k in ST else k
 def val(v,k): return f'vals{q2(k)} {v}' if isR(k) else f'vbool {v} ∷ []' if k=='bool' else f'sint-vals {SW[k]} {v}' if k in SW else f'vint {W[k]} {v} ∷ []'
 def mach(v,k): return f'val{q2(k)} {v}' if isR(k) else f'vbool {v}' if k=='bool' else f'vint {SW[k]} (ofZ {SW[k]} {v})' if k in SW else f'vint {W[k]} {v}'
 def nest(xs,end='tt'):
     return end if not xs else f'({xs[0]}, {nest(xs[1:],end)})'
+lead=d.get('lead',0)
 ns=0
-while ns<len(params) and params[ns][1].rstrip('₂') in('mut','shr'): ns+=1
+while lead+ns<len(params) and params[lead+ns][1].rstrip('₂') in('mut','shr'): ns+=1
+slices=params[lead:lead+ns]
 flat=ns==0
-rest=params[ns:]
+rest=params[:lead]+params[lead+ns:]
+order=lambda sl,pl:pl[:lead]+sl+pl[lead:]
 sfx=[''] if ns==1 else ['₀','₁','₂'][:ns]
-kinds=[k.rstrip('₂') for _,k in params[:ns]]
-rw=['R₂' if k.endswith('₂') else 'R' for _,k in params[:ns]]
+kinds=[k.rstrip('₂') for _,k in slices]
+rw=['R₂' if k.endswith('₂') else 'R' for _,k in slices]
 el=['Entry' if r=='R₂' else 'Message' for r in rw]
 elt=d.get('second','Row')
 el=[elt if r=='R₂' else 'Message' for r in rw]
-isR=lambda k:k in('R','R₂')
-q2=lambda k:'₂' if k=='R₂' else ''
+isR=lambda k:k in('R','R₂') or k in ST
+q2=lambda k:'₂' if k=='R₂' else k if k in ST else ''
 SN=lambda j:'MutSlice' if kinds[j]=='mut' else 'ShrSlice'
 chain=lambda v,j:v+' .1'*j+' .0'
+chainP=lambda v,j:v+' .1'*(lead+j)+' .0'
 S=', '.join(sorted(set(SN(j) for j in range(ns)))) or 'MutSlice'
+# an operand of a call: local i, or its field k as i.k
+def opd(x,off):
+    i,_,k=x.partition('.'); q=pos(int(i))+off
+    return f'(load ! (from ! (fld ! refl (stop !))) (look-in ! {q} (sub ! {k} refl (whole !))))' if k else f'(load ! (from ! (stop !)) (look ! {q} refl))'
 def macro(t):
     for _ in range(4):
         t=re.sub(r'@p\((\d+)\)',lambda m:str(pos(int(m[1]))),t)
         t=re.sub(r'@ld\((\d+)\)',lambda m:f'(load ! (from ! (stop !)) (look ! {pos(int(m[1]))} refl))',t)
         t=re.sub(r'@fld\((\d+),(\d+)\)',lambda m:f'(load ! (from ! (fld ! refl (stop !))) (look-in ! {pos(int(m[1]))} (sub ! {m[2]} refl (whole !))))',t)
         def args(m):
-            xs=[int(x) for x in m[1].split(',') if x]
+            xs=[x for x in m[1].split(',') if x]
             o='(no-more !)'
-            for x in reversed(xs): o=f'(and-then ! (load ! (from ! (stop !)) (look ! {pos(x)} refl)) {o})'
+            for x in reversed(xs): o=f'(and-then ! {opd(x,0)} {o})'
             return f'(λ P L. {o[1:-1]})'
         def args2(m): return args(m).replace('λ P L.','λ P L₁ L₀ T.',1)
-        t=re.sub(r'@args2\(([\d,]*)\)',args2,t)
-        t=re.sub(r'@args\(([\d,]*)\)',args,t)
+        t=re.sub(r'@args2\(([\d,.]*)\)',args2,t)
+        t=re.sub(r'@args\(([\d,.]*)\)',args,t)
         def args1(m):
-            xs=[int(x) for x in m[1].split(',') if x]
+            xs=[x for x in m[1].split(',') if x]
             o='(no-more !)'
-            for x in reversed(xs): o=f'(and-then ! (load ! (from ! (stop !)) (look ! {pos(x)+1} refl)) {o})'
+            for x in reversed(xs): o=f'(and-then ! {opd(x,1)} {o})'
             return f'(λ P. {o[1:-1]})'
-        t=re.sub(r'@plain\(([\d,]*)\)',args1,t)
+        t=re.sub(r'@plain\(([\d,.]*)\)',args1,t)
         t=re.sub(r'@lift\((\d+)\);',lambda m:'move ! ('+' ∷ '.join(str(x) for x in [0,1]+list(range(3,pos(int(m[1]))+1))+[2])+' ∷ []) $',t)
         t=re.sub(r'@reborrow\((\d+),(\d+),(\d+)\);',lambda m:
           f'assigns ! (addr ! (from ! (fld ! refl (hop ! (look-in ! {pos(int(m[3]))} (sub ! 0 refl (whole !))) (stop !))))) (from ! (stop !)) (init ! {pos(int(m[1]))} refl (tt, tt)) $\n'
@@ -103,36 +119,36 @@ def indent(t,k): return textwrap.indent(textwrap.dedent(t.strip('\n')).rstrip(),
 subs='₀₁₂₃₄₅₆₇₈₉'
 sub=lambda i:''.join(subs[int(c)] for c in str(i))
 rows=' ∷ '.join(row(k) for _,k in rest)+(' ∷ ' if rest else '')+'[]'
-vs=' ∷ '.join([f'sliceVal (b{x}, o{x}) n{x}' for x in sfx]+[mach(v,k) for v,k in rest])+' ∷ []'
+vs=' ∷ '.join(order([f'sliceVal (b{x}, o{x}) n{x}' for x in sfx],[mach(v,k) for v,k in rest]))+' ∷ []'
 typing={'usize':'(tt, record { fits = g%s })','u64':'(tt, record { fits = g%s })','u32':'(tt, record { fits = g%s })','u8':'(tt, record { fits = g%s })','R':'(typed 𝓤 H A W %s g%s)'}
 def ty(v,k): return f'(typed{q2(k)} 𝓤 H A W {v} g{v})' if isR(k) else '(tt, tt)' if k=='bool' else f'(sint-lawful 𝓤 H A W {SW[k]} .typed {v} _ g{v} .0)' if k in SW else f'(tt, record {{ fits = g{v} }})'
-facts=[f'Room {rw[j]} n{x}' for j,x in enumerate(sfx)]+[(f'Is {k} {v} (vals{q2(k)} {v})' if isR(k) else 'Unit {0}' if k=='bool' else f'Is {k} {v} (sint-vals {SW[k]} {v})' if k in SW else f'{v} < 2 ^ {W[k][1:]}') for v,k in rest]+list(d['requires'])
+facts=[f'Room {rw[j]} n{x}' for j,x in enumerate(sfx)]+[(f'Is {row(k)} {v} (vals{q2(k)} {v})' if isR(k) else 'Unit {0}' if k=='bool' else f'Is {k} {v} (sint-vals {SW[k]} {v})' if k in SW else f'{v} < 2 ^ {W[k][1:]}') for v,k in rest]+list(d['requires'])
 reqs=d['requires']
 fnames=[f'gn{x}' for x in sfx]+['g'+v for v,_ in rest]+[f'h{sub(i)}' for i in range(len(reqs))]
-bind=' '.join(f'({v} : {"Message" if k=="R" else elt if k=="R₂" else "Bool" if k=="bool" else "ℤ" if k in SW else "ℕ"})' for v,k in rest)
+bind=' '.join(f'({v} : {"Message" if k=="R" else elt if k=="R₂" else k if k in ST else "Bool" if k=="bool" else "ℤ" if k in SW else "ℕ"})' for v,k in rest)
 cal=[(c[0],c[1],c[2] if len(c)>2 else lib) for c in d['callees']]
-kn=' '.join(f'({c.replace("_","-")}-known : Triple 𝓤 (C #{cc}·{c.replace("_","-")}) ({K} 𝓤 H A mem run))' for c,K,cc in cal)
-knT=''.join(f'Triple 𝓤 (CC #{cc}·{c.replace("_","-")}) ({K} 𝓤 H A mem run) → ' for c,K,cc in cal)
+kn=' '.join(f'({base(c)}-known : Triple 𝓤 (C #{cc}·{sym(c)}) ({K} 𝓤 H A mem run))' for c,K,cc in cal)
+knT=''.join(f'Triple 𝓤 (CC #{cc}·{sym(c)}) ({K} 𝓤 H A mem run) → ' for c,K,cc in cal)
 ks=' '.join(f'k{sub(i)}' for i in range(len(cal)))
 stayl=[(f'stay-slice ({j} ∷ []) tt (plain (λ _. {rw[j]}))' if kinds[j]=='mut' else f'stay-none-slice ({j} ∷ []) tt (plain (λ _. {rw[j]})) yes') for j in range(ns)]
 goesl=[(f'goes-slice 𝓤 H A W {ns} {j} tt (plain (λ _. {rw[j]}))' if kinds[j]=='mut' else f'goes-none-slice 𝓤 H A W {ns} ({j} ∷ []) tt (plain (λ _. {rw[j]})) yes') for j in range(ns)]
-stays=nest(stayl+[f'stay-none (λ _. {row(k)}) yes' for _,k in rest])
+stays=nest(order(stayl,[f'stay-none (λ _. {row(k)}) yes' for _,k in rest]))
 LN=str(ns)
-goess=nest(goesl+[f'goes-none 𝓤 H A W {LN} (λ _. {row(k)}) yes (λ κs x f. refl)' for _,k in rest])
-spell=nest(['slice-vals']*ns+[(f'vals{q2(k)}' if isR(k) else 'bool-vals' if k=='bool' else f'sint-vals {SW[k]}' if k in SW else f'uint-vals {W[k]}') for _,k in rest])
-tell=nest([kinds[j]+f'-slice-tells (named {j}) ({chain("κs",j)}) {rw[j]}' for j in range(ns)]+[(f'tells{q2(k)}' if isR(k) else 'bool-tells' if k=='bool' else f'sint-tells {SW[k]}' if k in SW else f'uint-tells {W[k]}') for _,k in rest])
+goess=nest(order(goesl,[f'goes-none 𝓤 H A W {LN} (λ _. {row(k)}) yes (λ κs x f. refl)' for _,k in rest]))
+spell=nest(order(['slice-vals']*ns,[(f'vals{q2(k)}' if isR(k) else 'bool-vals' if k=='bool' else f'sint-vals {SW[k]}' if k in SW else f'uint-vals {W[k]}') for _,k in rest]))
+tell=nest(order([kinds[j]+f'-slice-tells (named {j}) ({chain("κs",j)}) {rw[j]}' for j in range(ns)],[(f'tells{q2(k)}' if isR(k) else 'bool-tells' if k=='bool' else f'sint-tells {SW[k]}' if k in SW else f'uint-tells {W[k]}') for _,k in rest]))
 def proj(i):
-    i=i-1+ns
+    i=i-1+(ns if i>lead else 0)
     return 'a'+' .1'*i+' .0'
 def areproj(i,k):
-    i=i-1+ns
+    i=i-1+(ns if i>lead else 0)
     if k=='bool': return 'tt'
     return 'are'+' .1'*i+' .0'+('' if isR(k) or k in SW else ' .1')
 envs={v:proj(i+1) for i,(v,_) in enumerate(rest)}
 def inst(f):
     for j,x in enumerate(sfx):
-        f=re.sub(r'(?<![\w-])n'+x+r'(?![\w-])',f'length (now ({chain("a",j)}))',f)
-        f=re.sub(r'(?<![\w-])ys'+x+r'(?![\w-])',f'now ({chain("a",j)})',f)
+        f=re.sub(r'(?<![\w-])n'+x+r'(?![\w-])',f'length (now ({chainP("a",j)}))',f)
+        f=re.sub(r'(?<![\w-])ys'+x+r'(?![\w-])',f'now ({chainP("a",j)})',f)
     for v,pj in envs.items(): f=re.sub(r'(?<![\w-])'+v+r'(?![\w-])','('+pj+')' if False else pj,f)
     return f
 def prod(xs): return xs[0] if len(xs)==1 else f'({xs[0]}) × '+(f'({prod(xs[1:])})' if len(xs[1:])>1 else f'({xs[1]})')
@@ -186,10 +202,14 @@ use {SL(lib)}.declared.Row.{{Row}}
 use {PL(lib)}.Messages.{{R, val, vals, tells, typed, makes}}
 use {PL(lib)}.Rows.{{R as R₂, val as val₂, vals as vals₂, tells as tells₂, typed as typed₂, makes as makes₂}}
 use {PL(lib)}.Calls.{{Mut, Shr, slice}}
-use {PL(lib)}.MessageCalls.{{{", ".join(x for x in [K for _,K,_c in cal]+list(d["calls"]) if "row" not in x.lower())}}}
-use {PL(lib)}.RowCalls.{{{", ".join(x for x in [K for _,K,_c in cal]+list(d["calls"]) if "row" in x.lower())}}}'''.split('\n')
+use {PL(lib)}.MessageCalls.{{{", ".join(x for x in [K for _,K,_c in cal]+list(d["calls"]) if "row" not in x.lower() and x not in given)}}}
+use {PL(lib)}.RowCalls.{{{", ".join(x for x in [K for _,K,_c in cal]+list(d["calls"]) if "row" in x.lower() and x not in given)}}}'''.split('\n')
+if own: uses+=[f'use {PL(crate)}.Callees.{{{", ".join(own)}}}']
+for k,m in ST.items():
+    m,of=m if isinstance(m,tuple) else (m,f'{PL(crate)}.Of{k}')
+    uses+=[f'use {m}.{{{k}}}',f'use {of}.{{R as R{k}, shape as shape{k}, val as val{k}, vals as vals{k}, tells as tells{k}, typed as typed{k}, makes as makes{k}}}']
 for c,K,cc in cal:
-    uses+= [f'use {PL(cc)}.{c}.Symbol as {c.replace("_","-")}-def',f'use {PL(cc)}.{c}.Symbol.{{name as #{cc}·{c.replace("_","-")}}}',f'use {PL(cc)}.{c}.Met as {c.replace("_","-")}-thm']
+    uses+= [f'use {PL(cc)}.{c}.Symbol as {base(c)}-def',f'use {PL(cc)}.{c}.Symbol.{{name as #{cc}·{sym(c)}}}',f'use {PL(cc)}.{c}.Met as {base(c)}-thm']
 if re.search(r'lib\.ListN\.\{[^}]*\bdrop\b',d.get('uses','')): uses=[u.replace(' drop,','') if u.startswith('use types.Kit') else u for u in uses]
 uses+=d.get('uses','').strip().split('\n') if d.get('uses') else []
 uses+=f'''use Rattle.{crate}.proofs.{fn}.Key.{{name as #{crate}·{name}}}
@@ -208,28 +228,31 @@ stayed = {stays}
 
 module _ {{M : Type 1}} (𝓤 : URA M) (H : Heap 𝓤) (A : Atoms 𝓤) (W : Given 𝓤 H A) (mem : Memory → SProp 𝓤) (run : Routine → Fun 𝓤) {SLB}{bind} where
 {NB}  abbrev a : Args {name}.signature {KS}
-  a = {nest([f"slice b{x} o{x} γ{x} ys{x}" for x in sfx]+[v for v,_ in rest])}
+  a = {nest(order([f"slice b{x} o{x} γ{x} ys{x}" for x in sfx],[v for v,_ in rest]))}
 
   abbrev at : Vals {name}.signature {KS}
-  at = {nest([f"sliceVal (b{x}, o{x}) n{x} ∷ []" for x in sfx]+[val(v,k) for v,k in rest])}
+  at = {nest(order([f"sliceVal (b{x}, o{x}) n{x} ∷ []" for x in sfx],[val(v,k) for v,k in rest]))}
 
   abbrev Post : Val → SProp 𝓤
   Post = walkOf 𝓤 H A {name}.ended stayed ({name}.clauses 𝓤 H A mem run) .post {BND}
 
-{indent(d['exits'].replace('@END',f"ends-at 𝓤 H A {name}.ended stayed ({name}.clauses 𝓤 H A mem run) W {BND}").replace('@OWN',f"‵ (owns ({rows}) {'a' if flat else '(a'+' .1'*ns+')'} {'at' if flat else '(at'+' .1'*ns+')'})"),2)}
+{indent(d['exits'].replace('@END',f"ends-at 𝓤 H A {name}.ended stayed ({name}.clauses 𝓤 H A mem run) W {BND}").replace('@OWN',f"‵ (owns ({rows}) {'a' if flat else nest([v for v,_ in rest]) if lead else '(a'+' .1'*ns+')'} {'at' if flat else nest([val(v,k) for v,k in rest]) if lead else '(at'+' .1'*ns+')'})"),2)}
 '''
 tb='(𝓣 : Tables 𝓤 H)' if loop else '(C : Calls 𝓤 H) (Λ : Loops 𝓤 H)'
 ct='(𝓣 .C) (𝓣 .Λ)' if loop else 'C Λ'
 C1='(𝓣 .C)' if loop else 'C'
 if loop: kn=kn.replace('(C #','(𝓣 .C #')
 alloc=' '.join(f'alloc1 ! (λ l{sub(i)}.' for i in range(N))
-passes=' '.join(f'pass1 ! (init ! {2*(N-1-(j+1))} refl {"(tt, (tt, (record { fits = gn"+sfx[j]+" .0 }, tt)))" if j<ns else ty(*params[j])}) $' for j in range(len(params)))
+passes=' '.join(f'pass1 ! (init ! {2*(N-1-(j+1))} refl {"(tt, (tt, (record { fits = gn"+sfx[j-lead]+" .0 }, tt)))" if lead<=j<lead+ns else ty(*params[j])}) $' for j in range(len(params)))
 tok=2*N; ow=2*N+1
 w=macro(d['walk'])
-slrows=' ∷ '.join([f'{SN(j)} (named {j}) κ{x} {rw[j]}' for j,x in enumerate(sfx)]+[row(k) for _,k in rest]+['[]'])
+slrows=' ∷ '.join(order([f'{SN(j)} (named {j}) κ{x} {rw[j]}' for j,x in enumerate(sfx)],[row(k) for _,k in rest])+['[]'])
 def toks(j): return '‵ ftrue' if j==ns else f'(‵ (flft κ{sfx[j]} q{sfx[j]}) ⊛ {toks(j+1)})'
 ENT=f'{toks(0)} ∷ ‵ (owns ({slrows}) a at) ∷ []'
 NORM={0:f'move ! ({tok} ∷ {ow} ∷ []) $ nothing ! $ nothing ! $',1:f'move ! ({ow} ∷ {tok} ∷ []) $ fsplit ! $ move ! (2 ∷ []) $ split ! $ move ! (2 ∷ 0 ∷ []) $',2:f'move ! ({ow} ∷ {tok} ∷ []) $ fsplit ! $ move ! (1 ∷ []) $ fsplit ! $ move ! (3 ∷ []) $ split ! $ move ! (1 ∷ []) $ split ! $ move ! (5 ∷ 2 ∷ 3 ∷ 0 ∷ 1 ∷ 4 ∷ []) $'}[ns]
+if lead:
+    assert (lead,ns,len(rest))==(1,2,1)
+    NORM=f'move ! ({ow} ∷ {tok} ∷ []) $ fsplit ! $ move ! (1 ∷ []) $ fsplit ! $ move ! (1 ∷ []) $ fsplit ! $ move ! (4 ∷ []) $ split ! $ move ! (1 ∷ []) $ split ! $ move ! (6 ∷ 4 ∷ []) $ fjoin ! $ move ! (5 ∷ 3 ∷ 4 ∷ 1 ∷ 2 ∷ 0 ∷ []) $'
 HEAD={0:'true; true; true',1:"t's slice; the token; true",2:"the first slice; its token; the second; its token; true"}[ns]
 body+=f'''
   module _ {tb} (fm : FmC 𝓤 H (W .laws) {C1}) {kn} where
@@ -248,14 +271,14 @@ module _ {{M : Type 1}} (𝓤 : URA M) (H : Heap 𝓤) (A : Atoms 𝓤) (W : Giv
   {name}-walks {"𝓣" if loop else "C Λ"} fm {ks} = walked 𝓤 H A {name}.ended stayed ({name}.clauses 𝓤 H A mem run) (WpFn 𝓤 H {ct} code.function) (λ κs. {spell}) (λ κs. {tell})
       (λ κs qs bounds a g are. '''
 J=range(ns)
-SLA=''.join(f'({chain("κs",j)}) ' for j in J)+''.join(f'({chain("qs",j)}) ' for j in J)+''.join(f'({chain("a",j)} .ptr .0) ({chain("a",j)} .ptr .1) ' for j in J)+''.join(f'({chain("a",j)} .name) ' for j in J)+''.join(f'({chain("a",j)} .now) ' for j in J)
-SLR=''.join(f'({chain("are",j)} .0 .1) ' for j in J)
+SLA=''.join(f'({chain("κs",j)}) ' for j in J)+''.join(f'({chain("qs",j)}) ' for j in J)+''.join(f'({chainP("a",j)} .ptr .0) ({chainP("a",j)} .ptr .1) ' for j in J)+''.join(f'({chainP("a",j)} .name) ' for j in J)+''.join(f'({chainP("a",j)} .now) ' for j in J)
+SLR=''.join(f'({chainP("are",j)} .0 .1) ' for j in J)
 call=f'walk 𝓤 H A W mem run {SLA}{" ".join("("+proj(i+1)+")" for i in range(len(rest)))} {"𝓣" if loop else "C Λ"} fm {ks} {SLR}{" ".join("("+areproj(i+1,k)+")" for i,(v,k) in enumerate(rest))}'
 if reqs:
     body+=f'needs 𝓤 ({prod([inst(r) for r in reqs])}) _ (λ l.\n      {call} {" ".join("("+lproj(i,len(reqs))+")" for i in range(len(reqs)))}))\n'
 else:
     body+=f'via 𝓤 _ (fst∗ 𝓤 _ (emp 𝓤))\n      ({call}))\n'
-cites='\n'.join(f'    (cited 𝓤 H ({K} 𝓤 H (𝓖 .A) (𝓜 .mem) (𝓡 .run)) 𝓜 𝓡 code.env #{cc}·{c.replace("_","-")} {c.replace("_","-")}-def.routine code.calls-{cc}·{c.replace("_","-")} ({c.replace("_","-")}-thm.met 𝓤 H 𝓜 𝓖 𝓡))' for c,K,cc in cal)
+cites='\n'.join(f'    (cited 𝓤 H ({K} 𝓤 H (𝓖 .A) (𝓜 .mem) (𝓡 .run)) 𝓜 𝓡 code.env #{cc}·{sym(c)} {base(c)}-def.routine code.calls-{cc}·{sym(c)} ({base(c)}-thm.met 𝓤 H 𝓜 𝓖 𝓡))' for c,K,cc in cal)
 body+=f'''
 {name}-meets : {{M : Type 1}} (𝓤 : URA M) (H : Heap 𝓤) (A : Atoms 𝓤) → Given 𝓤 H A → (mem : Memory → SProp 𝓤) (run : Routine → Fun 𝓤) (𝓣 : Tables 𝓤 H) → {knT.replace("(CC #","(𝓣 .C #")}Meets 𝓤 H A {name}.signature (WpFn 𝓤 H (𝓣 .C) (𝓣 .Λ) code.function) ({name}.spec 𝓤 H A mem run)
 {name}-meets 𝓤 H A W mem run 𝓣 {ks} = walk-meets 𝓤 H A {name}.ended stayed W {goess} ({name}.clauses 𝓤 H A mem run)

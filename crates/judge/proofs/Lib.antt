@@ -1,0 +1,6 @@
+pub mod OfLimits
+pub mod OfScan
+pub mod OfRowScan
+pub mod OfBench
+pub mod Callees
+pub mod TabledCall
