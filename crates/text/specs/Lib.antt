@@ -1,1 +1,11 @@
+pub mod DigitLaws
+pub mod Digits
+pub mod Examples
+pub mod LaidLaws
+pub mod LengthLaws
+pub mod LineLaws
+pub mod Lines
 pub mod Printed
+pub mod WholeLaws
+pub mod Written
+pub mod WrittenLaws

@@ -1,0 +1,82 @@
+-- `text::replicas::put_store_lines` meets its contract.
+use Prim.Native.Nat.{_≤_, _-_, _*_}
+use mathlib.Core.Path.{_≡_, refl, ap}
+use native.Mathlib.Omega.{arith}
+use lib.ListN.{length}
+use denote.Ref.{now}
+use borrow.Author.Needs.{needs}
+use Rattle.text.specs.LineLaws.{one-store}
+use Rattle.text.specs.Lines.{storeTexts}
+use Rattle.text.specs.Written.{Wrote}
+use Rattle.text.specs.WrittenLaws.{nothing, andThen, asText}
+use Rattle.text.proofs.replicas.put_store_lines.Statement.{statement}
+use Rattle.text.proofs.replicas.put_store_lines.Tie as tie
+
+abbrev Inv-loop : tie.InvT-loop
+Inv-loop buf₀ at n m replicas next₀ i₀ buf next i = (i ≤ n) × (length buf ≡ length buf₀) × Wrote at (storeTexts replicas m 1 i) (784 * i) buf₀ buf next
+
+abbrev μ-loop : tie.MeasureT-loop
+μ-loop buf₀ at n m replicas next₀ i₀ buf next i = n - i
+
+loop-holds : tie.Need-loop-holds Inv-loop μ-loop
+loop-holds c = (omega arith, refl, nothing (c .before .args .at) (now (c .before .args .buf)) (omega arith))
+
+cast-replica : tie.Need-cast-replica Inv-loop μ-loop
+cast-replica c = search needs
+
+mul-replica : tie.Need-mul-replica Inv-loop μ-loop
+mul-replica c = search needs
+
+array-copy-out-replica : tie.Need-array-copy-out-replica Inv-loop μ-loop
+array-copy-out-replica c = search needs
+
+add-put-reg-lines : tie.Need-add-put-reg-lines Inv-loop μ-loop
+add-put-reg-lines c = search needs
+
+put-reg-lines-requires : tie.Need-put-reg-lines-requires Inv-loop μ-loop
+put-reg-lines-requires c κs = search needs
+
+add-i : tie.Need-add-i Inv-loop μ-loop
+add-i c = search needs
+
+loop-less : tie.Need-loop-less Inv-loop μ-loop
+loop-less c = search needs
+
+loop-again : tie.Need-loop-again Inv-loop μ-loop
+loop-again c =
+    let w = c .before .before in
+    let l = w .before .before .before .before in
+    let s = l .before .before in (
+      omega arith,
+      search needs,
+      asText (one-store (s .args .t3) (s .args .m) (l .loop .i) _ (omega arith)) (omega arith)
+          (andThen (l .loop .inv .2) (w .put-reg-lines .ensures)),
+    )
+
+same-length : tie.Need-same-length Inv-loop μ-loop
+same-length c = search needs
+
+returns : tie.Need-returns Inv-loop μ-loop
+returns c =
+    let l = c .before in
+    let s = l .before .before in
+    let all : l .loop .i ≡ s .args .n = omega arith in
+    asText (ap (storeTexts (s .args .t3) (s .args .m) 1) all) (omega arith) (l .loop .inv .2)
+
+pub put-store-lines-spec : {M : Type 1} → statement M
+put-store-lines-spec =
+    tie.close
+    (tie.spec
+    Inv-loop
+    μ-loop
+    loop-holds
+    cast-replica
+    mul-replica
+    array-copy-out-replica
+    add-put-reg-lines
+    put-reg-lines-requires
+    add-i
+    loop-less
+    loop-again
+    same-length
+    returns)
