@@ -1,0 +1,3 @@
+pub mod Local
+pub mod Callees
+pub mod Big

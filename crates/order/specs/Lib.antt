@@ -1,0 +1,11 @@
+pub mod Operations
+pub mod Keys
+pub mod Ranks
+pub mod RankLaws
+pub mod DigitLaws
+pub mod KeyLaws
+pub mod ComputedLaws
+pub mod LayingLaws
+pub mod SortMapLaws
+pub mod PointKeyLaws
+pub mod FillLaws
