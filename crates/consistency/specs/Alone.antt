@@ -19,7 +19,8 @@ use Rattle.placing.specs.OneOrder.{oneOrder}
 use Rattle.sc_abd.specs.Demand2.{ReachedBy, start, next}
 use Rattle.sc_abd.specs.Impostors.{refusesAll, doesNothing, firstHonest, countedOnly}
 use Rattle.consistency.specs.Demand3.{Demand3, sequential}
-use Rattle.consistency.specs.Operations.{operationOf, operationsOf, orderOf}
+use Rattle.order.specs.Operations.{operationOf}
+use Rattle.consistency.specs.Operations.{operationsOf, orderOf}
 
 pub refusesAll-alone : Demand3 refusesAll
 unfolding refusesAll

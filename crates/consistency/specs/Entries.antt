@@ -15,7 +15,7 @@ use Rattle.tables.specs.declared.Kind.{Kind as RowKind}
 use Rattle.tables.specs.declared.Kind.the-variants.{Read, Write}
 use Rattle.tables.specs.declared.Row.{Row}
 use Rattle.tables.specs.Tables.{emptyRow}
-use Rattle.consistency.specs.Operations.{kindOf, answeredOf, operationOf}
+use Rattle.order.specs.Operations.{kindOf, answeredOf, operationOf}
 
 abbrev pub entryAt : List Row → ℕ → Entry ℤ
 entryAt rows j = record { row = suc j; operation = operationOf (getD rows j emptyRow) }

@@ -26,7 +26,8 @@ use Rattle.tables.specs.declared.Row.{Row}
 use Rattle.tables.specs.Tables.{emptyRow}
 use Rattle.state.specs.State.{State}
 use Rattle.state.specs.Reached.{Reached}
-use Rattle.consistency.specs.Operations.{kindOf, answeredOf, operationsOf}
+use Rattle.order.specs.Operations.{kindOf, answeredOf}
+use Rattle.consistency.specs.Operations.{operationsOf}
 use Rattle.consistency.specs.Held.{Held}
 use Rattle.consistency.specs.Sound.{Sound, Done}
 use Rattle.consistency.specs.SoundLaws.{reached-sound}

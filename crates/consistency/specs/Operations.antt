@@ -1,39 +1,13 @@
--- The rows of a history as the operations that the one order speaks of.
-use Prim.Native.Nat.{ℕ, zero, suc}
-use mathlib.Core.List.{List, map}
-use mathlib.Core.Option.{Option, none, some}
+-- The operations of a state, and their one order.
+use Prim.Native.Nat.{ℕ}
+use mathlib.Core.List.{List}
 use lib.IntN.{ℤ}
-use Rattle.placing.specs.Operation.{Operation, Kind}
-use Rattle.placing.specs.OneOrder.{oneOrder}
-use Rattle.tables.specs.declared.Kind.{Kind as RowKind}
-use Rattle.tables.specs.declared.Kind.the-variants.{Read, Write}
-use Rattle.tables.specs.declared.Row.{Row}
+use Rattle.placing.specs.Operation.{Operation}
+use Rattle.order.specs.Operations.{operationsOf as ofRows, orderOf as ofHistory}
 use Rattle.state.specs.State.{State}
 
-abbrev pub kindOf : RowKind → Kind
-kindOf Read = Kind.Read
-kindOf Write = Kind.Write
-
--- a response time of 0 is none: the operation is pending
-abbrev pub answeredOf : ℕ → Option ℕ
-answeredOf zero = none
-answeredOf (suc t) = some (suc t)
-
-abbrev pub operationOf : Row → Operation ℤ
-operationOf r =
-    record {
-      process = r .process .0;
-      kind = kindOf (r .kind);
-      register = r .register;
-      invoked = r .invoked .0;
-      answered = answeredOf (r .answered .0);
-      stamp = r .stamp;
-      value = r .value;
-    }
-
 abbrev pub operationsOf : State → List (Operation ℤ)
-operationsOf s = map operationOf (s .rows)
+operationsOf s = ofRows (s .rows)
 
--- the one order of a state, as row numbers
 abbrev pub orderOf : State → List ℕ
-orderOf s = oneOrder (operationsOf s)
+orderOf s = ofHistory (s .rows)
