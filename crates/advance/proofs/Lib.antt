@@ -1,0 +1,10 @@
+pub mod Askeds
+pub mod Benches
+pub mod Callees
+pub mod Events
+pub mod Founds
+pub mod Knowns
+pub mod Line
+pub mod Soughts
+pub mod Steppeds
+pub mod Works

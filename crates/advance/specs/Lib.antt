@@ -1,0 +1,9 @@
+pub mod Parts
+pub mod ListLaws
+pub mod PartLaws
+pub mod Advanced
+pub mod Good
+pub mod Steps
+pub mod Answers
+pub mod StepLaws
+pub mod Advances

@@ -1,0 +1,231 @@
+-- Event by event: the work of an event is what `step` says.
+use Prim.Native.Nat.{ℕ, zero, suc, _+_, _-_, _<_, _≤_}
+use native.Mathlib.Omega.{arith}
+use mathlib.Core.Path.{_≡_, refl, sym, ap, subst, _∙_}
+use mathlib.Core.Bool.{Bool, true, false, not, cond, _||_}
+use mathlib.Core.List.{List, [], _∷_, _++_}
+use lib.Dec.{leb}
+use lib.IntN.{ℤ}
+use lib.ListN.{length, getD, set, replicate, length-append, length-set}
+use lib.Seq.{take-length, take-append-seam}
+use borrow.Author.Tests.{eqb-false, leb-false, ltb-false}
+use Rattle.words.specs.declared.Body.{Body}
+use Rattle.words.specs.declared.Body.the-variants.{Query, Response, Update, Ack}
+use Rattle.words.specs.declared.Message.{Message}
+use Rattle.words.specs.declared.Pid.{Pid}
+use Rattle.words.specs.Ranges.{within}
+use Rattle.replica.specs.declared.Answer.{Answer}
+use Rattle.replica.specs.declared.Ended.{Ended}
+use Rattle.replica.specs.declared.Ended.the-variants.{Pending, At}
+use Rattle.replica.specs.declared.Phase.{Phase}
+use Rattle.replica.specs.declared.Phase.the-variants.{Idle, Querying, Updating}
+use Rattle.replica.specs.declared.Replica.{Replica}
+use Rattle.replica.specs.declared.Sends.{Sends}
+use Rattle.replica.specs.declared.Sends.the-variants.{Nothing}
+use Rattle.replica.specs.Handlers.{isIdle, readBegun, writeBegun, crashed}
+use Rattle.replica.specs.Numbers.{sentBy, pointed}
+use Rattle.tables.specs.declared.Found.{Found}
+use Rattle.tables.specs.declared.Found.the-variants.{At as Place, Missing}
+use Rattle.tables.specs.declared.Row.{Row}
+use Rattle.tables.specs.Tables.{emptyMessage, emptyRow, seek, removed}
+use Rattle.tables.specs.TableLaws.{seek-at}
+use Rattle.state.specs.declared.Event.{Event}
+use Rattle.state.specs.declared.Event.the-variants.{Read, Write, Deliver, Crash, Lose}
+use Rattle.state.specs.State.{State, freshReplica, replicaOf, laidMessages, laidRows}
+use Rattle.state.specs.State as S
+use Rattle.state.specs.Step.{outcome, check, full, noRoom, invokeRefusal, deliverRefusal, crashRefusal, readRow, writeRow, completed, moved, answeredRows, withoutMessage, askedRegister, receivedBy, received}
+use Rattle.state.specs.Step.{step, stepRead, stepWrite, stepDeliver, stepCrash, stepLose, deliverAt, loseAt}
+use Rattle.state.specs.Tabled.{benchOf}
+use Rattle.decide.specs.Plan.{refusedPlan, acceptedPlan, settled, numberBy, rowBy, askedOf, answerBy, answerTo, planOf, readPlan, writePlan, deliverPlan, crashPlan, losePlan}
+use Rattle.advance.specs.declared.Known.{Known}
+use Rattle.advance.specs.declared.Tally.{Tally}
+use Rattle.advance.specs.Answers.{read-begun, write-begun, crash-silent, answer-right, Waited}
+use Rattle.advance.specs.Good.{Good, Points}
+use Rattle.advance.specs.ListLaws.{laid, laid-set, laid-next, getD-laid}
+use Rattle.advance.specs.Parts.{wantedOf, placeOf, processOf, countersOf, writtenAt, whoseOf, askedOf as askedFor, askedIn, knownOf, workBy, workOf, wholeWork}
+use Rattle.advance.specs.Steps.{Done, by-number, refusal-done, kept-done, taken-done, lost-done, written, past-rows, Mild}
+
+-- a check that comes to 0 did not hold, and neither did a later one
+passes : (c : Bool) (k later : ℕ) → (k ≡ 0 → ⊥) → check c k later ≡ 0 → (c ≡ false) × (later ≡ 0)
+passes true k later n e = absurd (n e)
+passes false k later n e = (refl, e)
+
+invoke-room : (s : State) (p x later : ℕ) → invokeRefusal s p x later ≡ 0 → (length (s .rows) < 1024) × (length (s .flight) + s .n ≤ 512)
+invoke-room s p x later e =
+    let (a, e₁) = passes (full s) 17 _ (eqb-false 17 0 refl) e in
+    let (b, e₂) = passes (not (within p (s .n))) 8 _ (eqb-false 8 0 refl) e₁ in
+    let (c, e₃) = passes (not (within x (s .m))) 9 _ (eqb-false 9 0 refl) e₂ in
+    let (d, e₄) = passes (replicaOf s p .crashed) 10 _ (eqb-false 10 0 refl) e₃ in
+    let (f, e₅) = passes (not (isIdle (replicaOf s p .phase))) 11 _ (eqb-false 11 0 refl) e₄ in
+    let (g, e₆) = passes (leb 1024 (length (s .rows))) 16 _ (eqb-false 16 0 refl) e₅ in
+    let (h, e₇) = passes (noRoom (length (s .flight) + s .n)) 15 later (eqb-false 15 0 refl) e₆ in
+    (leb-false 1024 (length (s .rows)) g, ltb-false 512 (length (s .flight) + s .n) h)
+
+-- the next row is written behind the rows
+next-row : (s : State) (row : Row) → length (s .rows) < 1024 → set (laidRows s) (writtenAt (length (s .rows) + 1)) row ≡ laid 1024 emptyRow (s .rows ++ (row ∷ []))
+next-row s row l = ap (λ (i : ℕ). set (laidRows s) i row) (written (length (s .rows) + 1) (omega arith) ∙ less) ∙ laid-next 1024 emptyRow (s .rows) row l
+  where
+    less : length (s .rows) + 1 - 1 ≡ length (s .rows)
+    less = omega arith
+
+-- ---- what is gathered of a state
+
+abbrev gathered : State → Event → Found → Known
+gathered s event f =
+    record {
+      found = f;
+      message = getD (s .flight) (placeOf f) emptyMessage;
+      row = getD (s .rows) (pointed (replicaOf s (processOf event (getD (s .flight) (placeOf f) emptyMessage)) .phase) - 1) emptyRow;
+    }
+
+getD-again : {A : Type 0} (xs : List A) (i : ℕ) (d : A) → getD xs i d ≡ getD xs i (getD xs i d)
+getD-again [] i d = refl
+getD-again (x ∷ xs) zero d = refl
+getD-again (x ∷ xs) (suc i) d = getD-again xs i d
+
+-- ---- the rows that an answer leaves
+
+rows-done : (s : State) → Good s → (ended : Ended) (phase : Phase) → Waited ended phase → Points (s .rows) phase
+    → set (laidRows s) (writtenAt (numberBy ended (pointed phase))) (rowBy ended (getD (s .rows) (pointed phase - 1) emptyRow)) ≡ laid 1024 emptyRow (answeredRows (s .rows) (S.pointed phase) ended)
+rows-done s g Pending phase w points = past-rows s g emptyRow
+rows-done s g (At time pair) Idle w points = absurd w
+rows-done s g (At time pair) (Querying number best) w points =
+    ap (λ (i : ℕ). set (laidRows s) i (completed (getD (s .rows) (number - 1) emptyRow) time pair)) (written number (points .0))
+    ∙ laid-set 1024 emptyRow (s .rows) (number - 1) (completed (getD (s .rows) (number - 1) emptyRow) time pair) (omega (arith, points .0, points .1))
+rows-done s g (At time pair) (Updating number sent) w points =
+    ap (λ (i : ℕ). set (laidRows s) i (completed (getD (s .rows) (number - 1) emptyRow) time pair)) (written number (points .0))
+    ∙ laid-set 1024 emptyRow (s .rows) (number - 1) (completed (getD (s .rows) (number - 1) emptyRow) time pair) (omega (arith, points .0, points .1))
+
+rows-count : (rows : List Row) (number : ℕ) (ended : Ended) → length (answeredRows rows number ended) ≡ length rows
+rows-count rows number Pending = refl
+rows-count rows number (At time pair) = length-set rows (number - 1) (completed (getD rows (number - 1) emptyRow) time pair)
+
+-- ---- what a recipient answers, by the row that was gathered
+
+asked-is : (s : State) (phase : Phase) → askedOf phase (getD (s .rows) (pointed phase - 1) emptyRow) ≡ askedRegister s phase
+asked-is s Idle = refl
+asked-is s (Querying number best) = refl
+asked-is s (Updating number sent) = refl
+
+body-is : (s : State) (r : Replica) (m : Message) (x : Body) → answerBy x (s .n) (askedRegister s (r .phase)) r m ≡ receivedBy s r m x
+body-is s r m (Query x) = refl
+body-is s r m (Response pair) = refl
+body-is s r m (Update x pair) = refl
+body-is s r m Ack = refl
+
+answer-is : (s : State) (r : Replica) (m : Message) → answerTo (s .n) (askedOf (r .phase) (getD (s .rows) (pointed (r .phase) - 1) emptyRow)) r m ≡ received s r m
+answer-is s r m = ap (λ (a : ℕ). answerTo (s .n) a r m) (asked-is s (r .phase)) ∙ body-is s r m (m .body)
+
+-- ---- refusals that stand before the others
+
+full-first : (s : State) (u : Bool) (number : ℕ) (next : State) → cond u (outcome s 17 s) (outcome s number next) ≡ outcome s (cond u 17 number) next
+full-first s true number next = refl
+full-first s false number next = refl
+
+missing-done : (s : State) → Good s → (t : Tally) (p i : ℕ) (r : Replica) (u : Bool) → Done (workBy (benchOf s) t p i (refusedPlan (check u 17 12) r)) s (cond u (outcome s 17 s) (outcome s 12 s))
+missing-done s g t p i r true = refusal-done s g t p i 17 r refl
+missing-done s g t p i r false = refusal-done s g t p i 12 r refl
+
+module _ (s : State) (g : Good s) where
+  begin-done : (p x i : ℕ) (answer : Answer) (row : Row) → Mild (answer .sends) → ((n : ℕ) → sentBy n (answer .sends) ≤ n)
+      → Done (workBy (benchOf s) (record { rows = 1; delivered = 0; lost = 0; takes = false }) p i (settled (invokeRefusal s p x (answer .refusal)) (replicaOf s p) (acceptedPlan (countersOf (benchOf s)) p answer (length (s .rows) + 1) row)))
+      s (outcome s (invokeRefusal s p x (answer .refusal)) (moved s p answer (s .flight) (s .delivered) (s .rows ++ (row ∷ []))))
+  begin-done p x i answer row mild most =
+      by-number s g (record { rows = 1; delivered = 0; lost = 0; takes = false }) p i (invokeRefusal s p x (answer .refusal)) (replicaOf s p)
+      (acceptedPlan (countersOf (benchOf s)) p answer (length (s .rows) + 1) row) (moved s p answer (s .flight) (s .delivered) (s .rows ++ (row ∷ [])))
+      (λ z. kept-done s g 1 p i answer (length (s .rows) + 1) row (s .rows ++ (row ∷ [])) mild (omega (arith, invoke-room s p x (answer .refusal) z .1, most (s .n)))
+      (next-row s row (invoke-room s p x (answer .refusal) z .0)) (length-append (s .rows) (row ∷ [])))
+
+  pub read-done : (p : Pid) (x : ℕ) (k : Known) → Done (workOf (benchOf s) (Read p x) k) s (step s (Read p x))
+  unfolding workOf whoseOf planOf readPlan step stepRead
+  read-done p x k =
+      begin-done (p .0) x (placeOf (k .found)) (readBegun (replicaOf s (p .0)) x (length (s .rows) + 1)) (readRow (p .0) x (readBegun (replicaOf s (p .0)) x (length (s .rows) + 1) .replica .clock .0))
+      (read-begun (replicaOf s (p .0)) x (length (s .rows) + 1) .0) (read-begun (replicaOf s (p .0)) x (length (s .rows) + 1) .1)
+
+  pub write-done : (p : Pid) (x : ℕ) (value : ℤ) (k : Known) → Done (workOf (benchOf s) (Write p x value) k) s (step s (Write p x value))
+  unfolding workOf whoseOf planOf writePlan step stepWrite
+  write-done p x value k =
+      begin-done (p .0) x (placeOf (k .found)) (writeBegun (replicaOf s (p .0)) (record { 0 = p .0 }) x value (length (s .rows) + 1))
+      (writeRow (p .0) x value (writeBegun (replicaOf s (p .0)) (record { 0 = p .0 }) x value (length (s .rows) + 1) .replica .clock .0))
+      (write-begun (replicaOf s (p .0)) (record { 0 = p .0 }) x value (length (s .rows) + 1) .0) (write-begun (replicaOf s (p .0)) (record { 0 = p .0 }) x value (length (s .rows) + 1) .1)
+
+  silent-done : (p i number : ℕ) (r : Replica) (answer : Answer) → answer .sends ≡ Nothing
+      → Done (workBy (benchOf s) (record { rows = 0; delivered = 0; lost = 0; takes = false }) p i (settled number r (acceptedPlan (countersOf (benchOf s)) p answer 0 emptyRow)))
+      s (outcome s number (moved s p answer (s .flight) (s .delivered) (s .rows)))
+  silent-done p i number r answer silent =
+      by-number s g (record { rows = 0; delivered = 0; lost = 0; takes = false }) p i number r (acceptedPlan (countersOf (benchOf s)) p answer 0 emptyRow) (moved s p answer (s .flight) (s .delivered) (s .rows))
+      (λ z. kept-done s g 0 p i answer 0 emptyRow (s .rows) (subst Mild (sym silent) tt) (subst (λ (sends : Sends). length (s .flight) + sentBy (s .n) sends ≤ 512) (sym silent) (omega (arith, g .flight))) (past-rows s g emptyRow) (omega arith))
+
+  pub crash-done : (p : Pid) (k : Known) → Done (workOf (benchOf s) (Crash p) k) s (step s (Crash p))
+  unfolding workOf whoseOf planOf crashPlan step stepCrash
+  crash-done p k = silent-done (p .0) (placeOf (k .found)) (crashRefusal s (p .0) (crashed (replicaOf s (p .0)) .refusal)) (replicaOf s (p .0)) (crashed (replicaOf s (p .0))) (crash-silent (replicaOf s (p .0)))
+
+  found-within : (k i : ℕ) → Place i ≡ seek k 0 (s .flight) → i < length (s .flight)
+  found-within k i e = seek-at k (length (s .flight)) i (s .flight) (e ∙ sym (ap (seek k 0) (take-length (s .flight)))) .0
+
+  deliver-room : (r : Replica) (answer : Answer) → check (full s) 17 (deliverRefusal s r answer) ≡ 0 → length (s .flight) - 1 + sentBy (s .n) (answer .sends) ≤ 512
+  deliver-room r answer e =
+      let (a, e₁) = passes (full s) 17 (deliverRefusal s r answer) (eqb-false 17 0 refl) e in
+      let (b, e₂) = passes (r .crashed) 13 _ (eqb-false 13 0 refl) e₁ in
+      let (c, e₃) = passes (noRoom (length (s .flight) - 1 + sentBy (s .n) (answer .sends))) 15 (answer .refusal) (eqb-false 15 0 refl) e₂ in
+      ltb-false 512 (length (s .flight) - 1 + sentBy (s .n) (answer .sends)) c
+
+  receive-done : (p i : ℕ) → i < length (s .flight) → (r : Replica) (answer : Answer) → Mild (answer .sends) → Waited (answer .ended) (r .phase) → Points (s .rows) (r .phase)
+      → Done (workBy (benchOf s) (record { rows = 0; delivered = 1; lost = 0; takes = true }) p i
+      (settled (check (full s) 17 (deliverRefusal s r answer)) r (acceptedPlan (countersOf (benchOf s)) p answer (numberBy (answer .ended) (pointed (r .phase))) (rowBy (answer .ended) (getD (s .rows) (pointed (r .phase) - 1) emptyRow)))))
+      s (cond (full s) (outcome s 17 s) (outcome s (deliverRefusal s r answer) (moved s p answer (removed i (s .flight)) (s .delivered + 1) (answeredRows (s .rows) (S.pointed (r .phase)) (answer .ended)))))
+  receive-done p i l r answer mild waited points =
+      subst (Done _ s) (sym (full-first s (full s) (deliverRefusal s r answer) (moved s p answer (removed i (s .flight)) (s .delivered + 1) (answeredRows (s .rows) (S.pointed (r .phase)) (answer .ended)))))
+      (by-number s g (record { rows = 0; delivered = 1; lost = 0; takes = true }) p i (check (full s) 17 (deliverRefusal s r answer)) r
+      (acceptedPlan (countersOf (benchOf s)) p answer (numberBy (answer .ended) (pointed (r .phase))) (rowBy (answer .ended) (getD (s .rows) (pointed (r .phase) - 1) emptyRow)))
+      (moved s p answer (removed i (s .flight)) (s .delivered + 1) (answeredRows (s .rows) (S.pointed (r .phase)) (answer .ended)))
+      (λ z. taken-done s g p i l answer (numberBy (answer .ended) (pointed (r .phase))) (rowBy (answer .ended) (getD (s .rows) (pointed (r .phase) - 1) emptyRow)) (answeredRows (s .rows) (S.pointed (r .phase)) (answer .ended))
+      mild (deliver-room r answer z) (rows-done s g (answer .ended) (r .phase) waited points) (rows-count (s .rows) (S.pointed (r .phase)) (answer .ended))))
+
+  deliver-done : (k : ℕ) (f : Found) → f ≡ seek k 0 (s .flight) → Done (workOf (benchOf s) (Deliver k) (gathered s (Deliver k) f)) s (cond (full s) (outcome s 17 s) (deliverAt s f))
+  unfolding workOf whoseOf planOf deliverPlan
+  deliver-done k Missing e = missing-done s g (record { rows = 0; delivered = 1; lost = 0; takes = true }) (getD (s .flight) 512 emptyMessage .to .0) 512 (replicaOf s (getD (s .flight) 512 emptyMessage .to .0)) (full s)
+  deliver-done k (Place i) e =
+      let m : Message = getD (s .flight) i emptyMessage in
+      let r : Replica = replicaOf s (m .to .0) in
+      let l : i < length (s .flight) = found-within k i e in
+      let asked : ℕ = askedOf (r .phase) (getD (s .rows) (pointed (r .phase) - 1) emptyRow) in
+      subst (λ (a : Answer). Done (workOf (benchOf s) (Deliver k) (gathered s (Deliver k) (Place i))) s (cond (full s) (outcome s 17 s) (outcome s (deliverRefusal s r a) (moved s (m .to .0) a (removed i (s .flight)) (s .delivered + 1) (answeredRows (s .rows) (S.pointed (r .phase)) (a .ended))))))
+      (answer-is s r m)
+      (receive-done (m .to .0) i l r (answerTo (s .n) asked r m) (answer-right (s .n) asked r m (g .sender i l) .0) (answer-right (s .n) asked r m (g .sender i l) .1) (g .points i l))
+
+  lose-by : (p i : ℕ) (r : Replica) → r ≡ getD (s .replicas) (p - 1) r → i < length (s .flight) → (u v : Bool)
+      → Done (workBy (benchOf s) (record { rows = 0; delivered = 0; lost = 1; takes = true }) p i (refusedPlan (check u 17 (check v 14 0)) r)) s (cond u (outcome s 17 s) (outcome s (check v 14 0) (withoutMessage s i)))
+  lose-by p i r same l true v = refusal-done s g (record { rows = 0; delivered = 0; lost = 1; takes = true }) p i 17 r refl
+  lose-by p i r same l false true = refusal-done s g (record { rows = 0; delivered = 0; lost = 1; takes = true }) p i 14 r refl
+  lose-by p i r same l false false = lost-done s g p i r same l
+
+  lose-done : (k : ℕ) (f : Found) → f ≡ seek k 0 (s .flight) → Done (workOf (benchOf s) (Lose k) (gathered s (Lose k) f)) s (cond (full s) (outcome s 17 s) (loseAt s f))
+  unfolding workOf whoseOf planOf losePlan
+  lose-done k Missing e = missing-done s g (record { rows = 0; delivered = 0; lost = 1; takes = true }) (getD (s .flight) 512 emptyMessage .to .0) 512 (replicaOf s (getD (s .flight) 512 emptyMessage .to .0)) (full s)
+  lose-done k (Place i) e =
+      let m : Message = getD (s .flight) i emptyMessage in
+      lose-by (m .to .0) i (replicaOf s (m .to .0)) (getD-again (s .replicas) (m .to .0 - 1) freshReplica) (found-within k i e) (full s) (not (replicaOf s (m .from .0) .crashed || replicaOf s (m .to .0) .crashed))
+
+  pub event-done : (event : Event) → Done (workOf (benchOf s) event (gathered s event (seek (wantedOf event) 0 (s .flight)))) s (step s event)
+  unfolding step stepDeliver stepLose
+  event-done (Read p x) = read-done p x _
+  event-done (Write p x value) = write-done p x value _
+  event-done (Deliver k) = deliver-done k (seek k 0 (s .flight)) refl
+  event-done (Crash p) = crash-done p _
+  event-done (Lose k) = lose-done k (seek k 0 (s .flight)) refl
+
+-- ---- what is gathered from the tables is what the state has
+
+gathered-is : (s : State) (event : Event) → knownOf (askedIn (benchOf s) event (laidMessages s)) (getD (laidRows s) (askedIn (benchOf s) event (laidMessages s) .at) emptyRow) ≡ gathered s event (seek (wantedOf event) 0 (s .flight))
+unfolding knownOf askedFor whoseOf
+gathered-is s event =
+    rw (
+      take-append-seam (s .flight) (replicate (512 - length (s .flight)) emptyMessage),
+      getD-laid (512 - length (s .flight)) emptyMessage (s .flight) (placeOf (seek (wantedOf event) 0 (s .flight))),
+      getD-laid (1024 - length (s .rows)) emptyRow (s .rows) (pointed (replicaOf s (processOf event (getD (s .flight) (placeOf (seek (wantedOf event) 0 (s .flight))) emptyMessage)) .phase) - 1),
+    )
+
+pub laid-done : (s : State) → Good s → (event : Event) → Done (wholeWork (benchOf s) event (laidMessages s) (laidRows s)) s (step s event)
+unfolding wholeWork
+laid-done s g event = subst (λ (k : Known). Done (workOf (benchOf s) event k) s (step s event)) (sym (gathered-is s event)) (event-done s g event)
