@@ -170,7 +170,7 @@ use denote.Triple.Statement.{Contract, Triple}''')
             if ok: ns.append(x)
         if ns: kept.append(f'use {m[1]}.{{{", ".join(ns)}}}')
     open(path,'w').write('\n'.join(kept))
-B='/work/h3/crates/tables/proofs/'
+B='crates/tables/proofs/'
 about=lambda w:f'''-- The functions of this crate over a table of {w}, as a caller's walk cites them: a contract, and a step for the call. Each step is `Calls.antt`'s at the callee's clauses.
 -- Before each step over a slice the context is [what t owns; κ's token; …], and after it the same, and the call's result is to be stored, by `land`.
 -- A step whose name ends in `-ref` is for a caller that holds a `&`; the others are for one that holds a `&mut`.

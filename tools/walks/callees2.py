@@ -2,7 +2,7 @@
 """callees2.py: writes crates/advance/proofs/Callees.antt: a contract and a call step for each callee, with the result kept as a variable and an equation.
 A function: (path of the proof module, crate, kind, args, requires, result, ensures) where kind is 'plain' | 'ref' | 'shared' | 'mut' | 'mut2'."""
 import re
-root='/work/h7'; crate='advance'
+root='.'; crate='advance'
 W={'usize':'w64','u64':'w64','u32':'w32','u16':'w16','u8':'w8'}
 # struct and enum kinds: suffix -> (type, module of the shape)
 SH={'Line':'Rattle.advance.proofs.Line','Message':'Rattle.tables.proofs.Messages','Row':'Rattle.tables.proofs.Rows'}

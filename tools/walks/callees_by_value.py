@@ -2,7 +2,7 @@
 """Writes crates/judge/proofs/Callees.antt and the modules Of*.antt: the call steps of functions that take any structs by value (`calls-plain`), and of
 functions over one `&[T]` (`calls-ref`). A function: (path, kind 'plain' | 'ref:Message' | 'ref:Row', [(argument, kind)], result, what the result is)."""
 import re
-ROOT='/work/h8/crates/judge/proofs/'
+ROOT='crates/judge/proofs/'
 W={'usize':'w64','u32':'w32','u16':'w16','u8':'w8'}
 # struct: (its generated module, its record's module)
 ST={'Limits':('Rattle.judge.proofs','Rattle.judge.specs.declared'),'Scan':('Rattle.judge.proofs','Rattle.judge.specs.declared'),

@@ -1,4 +1,4 @@
-root='/work/h8'
+root='.'
 crate='judge'; lib='tables'; fn='is_tabled'; locals=7; lead=1
 params=[('b','Bench'),('t','shr'),('u','shr₂')]
 result='bool'

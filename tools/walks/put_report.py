@@ -1,4 +1,4 @@
-root='/work/h15'
+root='.'
 crate='report'; lib='tables'; fn='put_report'; locals=15
 params=[('buf','mut8'),('bench','Bench'),('f','u8'),('rows','shr₂'),('order','shr16'),('c','usize')]
 result='usize'

@@ -1,4 +1,4 @@
-root='/work/h15'
+root='.'
 crate='report'; lib='tables'; fn='put_rows'; locals=13; loop=True
 params=[('buf','mut8'),('s','usize'),('rows','shr₂'),('c','u16')]
 result='usize'

@@ -1,4 +1,4 @@
-root='/work/h8'
+root='.'
 crate='judge'; lib='tables'; fn='scan_messages'; locals=9; loop=True
 params=[('t','shr'),('f','u16'),('l','Limits')]
 result='bool'

@@ -1,4 +1,4 @@
-root='/work/h8'
+root='.'
 crate='judge'; lib='tables'; fn='scan_rows'; locals=9; loop=True
 params=[('t','shr₂'),('f','u16'),('l','Limits')]
 result='RowScan'

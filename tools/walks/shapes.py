@@ -1,7 +1,7 @@
 #!/usr/bin/env python3
 """shapes.py CRATE: writes crates/CRATE/proofs/<NAME>s.antt for each struct or enum that the walks pass by value (as `Messages.antt` of `tables` is for messages)."""
 import sys
-root='/work/h7'
+root='.'
 crate='advance'
 ALL=[('Row','struct','tables'),('Found','enum','tables'),('Event','enum','state'),('Bench','struct','state'),('Stepped','struct','state'),('Sought','struct','advance'),('Asked','struct','advance'),('Known','struct','advance'),('Work','struct','advance')]
 plural={'Bench':'Benches','Row':'Line'}

@@ -2,13 +2,12 @@
 """Writes the proof of a walked function from a short description: the imports, the contract's plumbing and the position numbers.
 A description is a Python file that sets
   crate, fn           the crate and the function, as in the source
-  params              (name, kind) for each parameter: kind 'mut' | 'shr' (a slice of R; the first one or two), 'mut₂' | 'shr₂' (of R₂, the row of the struct `second`) | 'usize' | 'u64' .. 'u8' | 'isize' | 'i64' .. 'i8' | 'bool' | 'R' | 'R₂'
+  params              (name, kind) for each parameter: kind 'mut' | 'shr' (a slice of R; up to three of all slices, anywhere), 'mut₂' | 'shr₂' (of R₂, the row of the struct `second`), 'mut8' | 'shr8' | 'mut16' | 'shr16' (of u8, u16) | 'usize' | 'u64' .. 'u8' | 'isize' | 'i64' .. 'i8' | 'bool' | 'R' | 'R₂'
   result              'unit' | 'bool' | 'usize' | .. | 'R' | ('row', 'M.the-row') 
   locals              how many locals the MIR has (mir.py prints them)
   lib                 the crate that has Row, Calls, Callees, .. (default: crate). Another crate's are named through its facade
   callees             (function, its contract's name in Callees.antt, and its crate where that isn't lib) for each callee
   calls               the names to import from Callees.antt
-  lead                how many plain parameters stand before the slices (default 0; 1 with two slices and none after them is done)
   requires            a list of facts, in terms of the parameters' names (n is the slice's count), or [] for none
   exits               text after `exits` 's signature: see below
   walk                the walk's body, with macros (below)
@@ -22,7 +21,7 @@ Macros in walk, where _i is a local's number; positions are right while the cont
   @ld(i)              an operand: copy of local i               @fld(i,k)   copy of field k of local i
   @set(i,RV,WT);      assigns ! RV to local i, with WT its typing
   @reborrow(j,k,i);   _j = &[mut] *_i.0 ; _k = (_j, _i.1)
-  @args(i,j.k,..)     the operands of a call, as calls-* take them: a local, or field k of one
+  @args(i,j.k,L,..)   the operands of a call, as calls-* take them: a local, field k of one, or L, a literal
   @again(i,RV,WT);    the same where local i holds something already
   @hoist(i); @lower(i);   local i's cell goes next to the slice, for `whiles2`, and back to its place        @forget(i,j,..);
   @args2(i,j,..)      the same for a callee of two slices
@@ -54,27 +53,32 @@ def val(v,k): return f'vals{q2(k)} {v}' if isR(k) else f'vbool {v} ∷ []' if k=
 def mach(v,k): return f'val{q2(k)} {v}' if isR(k) else f'vbool {v}' if k=='bool' else f'vint {SW[k]} (ofZ {SW[k]} {v})' if k in SW else f'vint {W[k]} {v}'
 def nest(xs,end='tt'):
     return end if not xs else f'({xs[0]}, {nest(xs[1:],end)})'
-lead=d.get('lead',0)
-ns=0
-while lead+ns<len(params) and params[lead+ns][1].rstrip('₂') in('mut','shr'): ns+=1
-slices=params[lead:lead+ns]
+isS=lambda k:k.rstrip('₂816') in('mut','shr')
+sidx=[j for j,p in enumerate(params) if isS(p[1])]
+ridx=[j for j,p in enumerate(params) if not isS(p[1])]
+ns=len(sidx)
+first=sidx==list(range(ns)) # the slices stand before the others
+slices=[params[j] for j in sidx]
 flat=ns==0
-rest=params[:lead]+params[lead+ns:]
-order=lambda sl,pl:pl[:lead]+sl+pl[lead:]
+rest=[params[j] for j in ridx]
+def order(sl,pl):
+    o=[None]*len(params)
+    for j,x in zip(sidx+ridx,sl+pl): o[j]=x
+    return o
 sfx=[''] if ns==1 else ['₀','₁','₂'][:ns]
-kinds=[k.rstrip('₂') for _,k in slices]
-rw=['R₂' if k.endswith('₂') else 'R' for _,k in slices]
-el=['Entry' if r=='R₂' else 'Message' for r in rw]
+kinds=[k.rstrip('₂816') for _,k in slices]
+rw=['R₂' if k.endswith('₂') else 'u8' if k.endswith('8') else 'u16' if k.endswith('16') else 'R' for _,k in slices]
 elt=d.get('second','Row')
-el=[elt if r=='R₂' else 'Message' for r in rw]
+el=[elt if r=='R₂' else 'ℕ' if r in('u8','u16') else 'Message' for r in rw]
 isR=lambda k:k in('R','R₂') or k in ST
 q2=lambda k:'₂' if k=='R₂' else k if k in ST else ''
 SN=lambda j:'MutSlice' if kinds[j]=='mut' else 'ShrSlice'
 chain=lambda v,j:v+' .1'*j+' .0'
-chainP=lambda v,j:v+' .1'*(lead+j)+' .0'
+chainP=lambda v,j:v+' .1'*sidx[j]+' .0'
 S=', '.join(sorted(set(SN(j) for j in range(ns)))) or 'MutSlice'
 # an operand of a call: local i, or its field k as i.k
 def opd(x,off):
+    if x=='L': return '(lit ! tt)'
     i,_,k=x.partition('.'); q=pos(int(i))+off
     return f'(load ! (from ! (fld ! refl (stop !))) (look-in ! {q} (sub ! {k} refl (whole !))))' if k else f'(load ! (from ! (stop !)) (look ! {q} refl))'
 def macro(t):
@@ -88,18 +92,18 @@ def macro(t):
             for x in reversed(xs): o=f'(and-then ! {opd(x,0)} {o})'
             return f'(λ P L. {o[1:-1]})'
         def args2(m): return args(m).replace('λ P L.','λ P L₁ L₀ T.',1)
-        t=re.sub(r'@args2\(([\d,.]*)\)',args2,t)
-        t=re.sub(r'@args\(([\d,.]*)\)',args,t)
+        t=re.sub(r'@args2\(([\d,.L]*)\)',args2,t)
+        t=re.sub(r'@args\(([\d,.L]*)\)',args,t)
         def args1(m):
             xs=[x for x in m[1].split(',') if x]
             o='(no-more !)'
             for x in reversed(xs): o=f'(and-then ! {opd(x,1)} {o})'
             return f'(λ P. {o[1:-1]})'
-        t=re.sub(r'@plain\(([\d,.]*)\)',args1,t)
+        t=re.sub(r'@plain\(([\d,.L]*)\)',args1,t)
         t=re.sub(r'@lift\((\d+)\);',lambda m:'move ! ('+' ∷ '.join(str(x) for x in [0,1]+list(range(3,pos(int(m[1]))+1))+[2])+' ∷ []) $',t)
         t=re.sub(r'@reborrow\((\d+),(\d+),(\d+)\);',lambda m:
           f'assigns ! (addr ! (from ! (fld ! refl (hop ! (look-in ! {pos(int(m[3]))} (sub ! 0 refl (whole !))) (stop !))))) (from ! (stop !)) (init ! {pos(int(m[1]))} refl (tt, tt)) $\n'
-          f'assigns ! (agg ! (and-then ! (load ! (from ! (stop !)) (look ! {pos(int(m[1]))} refl)) (and-then ! (load ! (from ! (fld ! refl (stop !))) (look-in ! {pos(int(m[3]))} (sub ! 1 refl (whole !)))) (no-more !)))) (from ! (stop !)) (init ! {pos(int(m[2]))} refl (tt, (tt, (record {{ fits = gn{sfx[int(m[3])-1]} .0 }}, tt)))) $',t)
+          f'assigns ! (agg ! (and-then ! (load ! (from ! (stop !)) (look ! {pos(int(m[1]))} refl)) (and-then ! (load ! (from ! (fld ! refl (stop !))) (look-in ! {pos(int(m[3]))} (sub ! 1 refl (whole !)))) (no-more !)))) (from ! (stop !)) (init ! {pos(int(m[2]))} refl (tt, (tt, (record {{ fits = gn{sfx[sidx.index(int(m[3])-1)]} .0 }}, tt)))) $',t)
         t=re.sub(r'@land\((\d+),(.*?)\);',lambda m:f'land ! (from ! (stop !)) (init ! {pos(int(m[1]))} refl {m[2]}) $',t)
         t=re.sub(r'@set\((\d+),(.*?),(\([^;]*\))\);',lambda m:f'assigns ! {m[2]} (from ! (stop !)) (init ! {pos(int(m[1]))} refl {m[3]}) $',t)
         t=re.sub(r'@hoist\((\d+)\);',lambda m:f'move ! (0 ∷ {pos(int(m[1]))} ∷ []) $',t)
@@ -110,7 +114,7 @@ def macro(t):
             xs=sorted(int(x) for x in m[1].split(','))
             fs=' '.join(f'forget ! {pos(x)} refl $' for x in reversed(xs))
             fr=' '.join(f'move ! ({pos(i)} ∷ {pos(i)+1} ∷ []) $ free1 ! $' for i in range(N))
-            return f'returns ! (look ! {pos(0)} refl) $ {fs}\n{fr} free0 ! $\nkeep ! ({ {0:"3",1:"0 ∷ 1 ∷ 3",2:"0 ∷ 1 ∷ 2 ∷ 3 ∷ 5"}[ns]} ∷ []) $'
+            return f'returns ! (look ! {pos(0)} refl) $ {fs}\n{fr} free0 ! $\nkeep ! ({ {0:"3",1:"0 ∷ 1 ∷ 3",2:"0 ∷ 1 ∷ 2 ∷ 3 ∷ 5",3:"0 ∷ 1 ∷ 2 ∷ 3 ∷ 4 ∷ 5 ∷ 7"}[ns]} ∷ []) $'
         t=re.sub(r'@end\(([\d,]*)\)',end,t)
         t=re.sub(r'@endin\((.*?)\|([\d,]*)\)',lambda m:end([0,m[2]]).replace('returns !',f'returns-within ! Post {m[1]}',1),t)
     return t
@@ -138,10 +142,10 @@ goess=nest(order(goesl,[f'goes-none 𝓤 H A W {LN} (λ _. {row(k)}) yes (λ κs
 spell=nest(order(['slice-vals']*ns,[(f'vals{q2(k)}' if isR(k) else 'bool-vals' if k=='bool' else f'sint-vals {SW[k]}' if k in SW else f'uint-vals {W[k]}') for _,k in rest]))
 tell=nest(order([kinds[j]+f'-slice-tells (named {j}) ({chain("κs",j)}) {rw[j]}' for j in range(ns)],[(f'tells{q2(k)}' if isR(k) else 'bool-tells' if k=='bool' else f'sint-tells {SW[k]}' if k in SW else f'uint-tells {W[k]}') for _,k in rest]))
 def proj(i):
-    i=i-1+(ns if i>lead else 0)
+    i=ridx[i-1]
     return 'a'+' .1'*i+' .0'
 def areproj(i,k):
-    i=i-1+(ns if i>lead else 0)
+    i=ridx[i-1]
     if k=='bool': return 'tt'
     return 'are'+' .1'*i+' .0'+('' if isR(k) or k in SW else ' .1')
 envs={v:proj(i+1) for i,(v,_) in enumerate(rest)}
@@ -236,24 +240,40 @@ module _ {{M : Type 1}} (𝓤 : URA M) (H : Heap 𝓤) (A : Atoms 𝓤) (W : Giv
   abbrev Post : Val → SProp 𝓤
   Post = walkOf 𝓤 H A {name}.ended stayed ({name}.clauses 𝓤 H A mem run) .post {BND}
 
-{indent(d['exits'].replace('@END',f"ends-at 𝓤 H A {name}.ended stayed ({name}.clauses 𝓤 H A mem run) W {BND}").replace('@OWN',f"‵ (owns ({rows}) {'a' if flat else nest([v for v,_ in rest]) if lead else '(a'+' .1'*ns+')'} {'at' if flat else nest([val(v,k) for v,k in rest]) if lead else '(at'+' .1'*ns+')'})"),2)}
+{indent(d['exits'].replace('@END',f"ends-at 𝓤 H A {name}.ended stayed ({name}.clauses 𝓤 H A mem run) W {BND}").replace('@OWN',f"‵ (owns ({rows}) {'a' if flat else nest([v for v,_ in rest]) if not first else '(a'+' .1'*ns+')'} {'at' if flat else nest([val(v,k) for v,k in rest]) if not first else '(at'+' .1'*ns+')'})"),2)}
 '''
 tb='(𝓣 : Tables 𝓤 H)' if loop else '(C : Calls 𝓤 H) (Λ : Loops 𝓤 H)'
 ct='(𝓣 .C) (𝓣 .Λ)' if loop else 'C Λ'
 C1='(𝓣 .C)' if loop else 'C'
 if loop: kn=kn.replace('(C #','(𝓣 .C #')
 alloc=' '.join(f'alloc1 ! (λ l{sub(i)}.' for i in range(N))
-passes=' '.join(f'pass1 ! (init ! {2*(N-1-(j+1))} refl {"(tt, (tt, (record { fits = gn"+sfx[j-lead]+" .0 }, tt)))" if lead<=j<lead+ns else ty(*params[j])}) $' for j in range(len(params)))
+passes=' '.join(f'pass1 ! (init ! {2*(N-1-(j+1))} refl {"(tt, (tt, (record { fits = gn"+sfx[sidx.index(j)]+" .0 }, tt)))" if j in sidx else ty(*params[j])}) $' for j in range(len(params)))
 tok=2*N; ow=2*N+1
 w=macro(d['walk'])
 slrows=' ∷ '.join(order([f'{SN(j)} (named {j}) κ{x} {rw[j]}' for j,x in enumerate(sfx)],[row(k) for _,k in rest])+['[]'])
 def toks(j): return '‵ ftrue' if j==ns else f'(‵ (flft κ{sfx[j]} q{sfx[j]}) ⊛ {toks(j+1)})'
 ENT=f'{toks(0)} ∷ ‵ (owns ({slrows}) a at) ∷ []'
-NORM={0:f'move ! ({tok} ∷ {ow} ∷ []) $ nothing ! $ nothing ! $',1:f'move ! ({ow} ∷ {tok} ∷ []) $ fsplit ! $ move ! (2 ∷ []) $ split ! $ move ! (2 ∷ 0 ∷ []) $',2:f'move ! ({ow} ∷ {tok} ∷ []) $ fsplit ! $ move ! (1 ∷ []) $ fsplit ! $ move ! (3 ∷ []) $ split ! $ move ! (1 ∷ []) $ split ! $ move ! (5 ∷ 2 ∷ 3 ∷ 0 ∷ 1 ∷ 4 ∷ []) $'}[ns]
-if lead:
-    assert (lead,ns,len(rest))==(1,2,1)
-    NORM=f'move ! ({ow} ∷ {tok} ∷ []) $ fsplit ! $ move ! (1 ∷ []) $ fsplit ! $ move ! (1 ∷ []) $ fsplit ! $ move ! (4 ∷ []) $ split ! $ move ! (1 ∷ []) $ split ! $ move ! (6 ∷ 4 ∷ []) $ fjoin ! $ move ! (5 ∷ 3 ∷ 4 ∷ 1 ∷ 2 ∷ 0 ∷ []) $'
-HEAD={0:'true; true; true',1:"t's slice; the token; true",2:"the first slice; its token; the second; its token; true"}[ns]
+# from [.. ; the tokens; what all own] to the normal form: the slices are taken out, and what the others own is put together again
+ctx=['T','O']; steps=[]
+def mv(*xs):
+    to=lambda xs:list(xs)+[x for x in ctx if x not in xs]
+    while xs and to(xs[:-1])==to(xs): xs=xs[:-1]
+    ps=[ctx.index(x) for x in xs]
+    if not xs: return
+    steps.append('move ! ('+' ∷ '.join(str(p) for p in ps)+' ∷ []) $')
+    ctx[:]=to(xs)
+if flat: NORM=f'move ! ({tok} ∷ {ow} ∷ []) $ nothing ! $ nothing ! $'
+else:
+    mv('O','T'); steps[0]=f'move ! ({ow} ∷ {tok} ∷ []) $'
+    for j in range(sidx[-1]+1):
+        mv('O'); steps.append('fsplit ! $'); ctx.insert(0,j)
+    for j in reversed(range(sidx[-1])):
+        if j not in sidx: mv(j,'O'); steps.append('fjoin ! $'); ctx.remove(j)
+    for j in range(ns):
+        mv('T'); steps.append('split ! $'); ctx.insert(0,f't{j}')
+    mv(*[x for j in range(ns) for x in (sidx[j],f't{j}')],'T','O')
+    NORM=' '.join(steps)
+HEAD={0:'true; true; true',1:"t's slice; the token; true",2:"the first slice; its token; the second; its token; true",3:"the first slice; its token; the second; its token; the third; its token; true"}[ns]
 body+=f'''
   module _ {tb} (fm : FmC 𝓤 H (W .laws) {C1}) {kn} where
     walk : {" → ".join(facts)} → ent 𝓤 (onEntry 𝓤 H A {name}.signature {KS} {QS} a at) (WpFn 𝓤 H {ct} code.function ({vs}) Post)
@@ -306,10 +326,11 @@ for u in uses:
     for x in re.split(r', (?![^{]*\})',m[2]):
         nm=x.split(' as ')[-1]
         core=nm.strip('_') if nm.startswith('_') and nm.endswith('_') and len(nm)>2 else nm
-        if nm=='[]' : ok='[]' in text
+        if nm=='': ok=False
+        elif nm=='[]' : ok='[]' in text
         elif nm.startswith('_'): ok=core in text
         else: ok=re.search(r'(?<![\w\-′·#])'+re.escape(nm)+r'(?![\w\-′·])',text) is not None
         if ok: ns.append(x)
     if ns: kept.append(f'use {m[1]}.{{{", ".join(ns)}}}')
-os.makedirs(f'{d.get("root","/work/h3")}/crates/{crate}/proofs/{fn}',exist_ok=True)
-open(f'{d.get("root","/work/h3")}/crates/{crate}/proofs/{fn}/Proof.antt','w').write('\n'.join(out+kept)+'\n'+body)
+os.makedirs(f'{d.get("root",".")}/crates/{crate}/proofs/{fn}',exist_ok=True)
+open(f'{d.get("root",".")}/crates/{crate}/proofs/{fn}/Proof.antt','w').write('\n'.join(out+kept)+'\n'+body)
