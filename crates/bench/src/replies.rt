@@ -1,0 +1,115 @@
+// What the bench replies, by value: whoever holds the tables gives their lengths, or whether they were well formed.
+ghost use mathlib.Core.Path.{_≡_};
+ghost use mathlib.Core.Bool.{true, cond};
+ghost use lib.ListN.{length};
+ghost use Rattle.words.specs.Stamps.{startPair};
+ghost use Rattle.state.specs.State.{freshReplica, fresh};
+ghost use Rattle.state.specs.Tabled.{benchOf};
+ghost use Rattle.standing.specs.Status.{standingsOf, downs};
+ghost use Rattle.bench.specs.Start.{startRefusal, starts, startReply};
+ghost use Rattle.bench.specs.Reply.{unformed};
+use replica::Phase;
+use replica::Replica;
+use standing::Statuses;
+use standing::all_down;
+use standing::standings_of;
+use state::Bench;
+use state::Stepped;
+use words::Pair;
+use words::Pid;
+use words::Rid;
+use words::Stamp;
+use words::Time;
+use words::ranges::PROCESSES;
+use words::ranges::REGISTERS;
+use words::ranges::is_within;
+
+// A bench that was just started; of 0 processes and 0 registers it is none.
+fn fresh_bench(n: u8, m: u8) -> Bench
+    ensures { λ r. ⌜ r ≡ benchOf (fresh n m) ⌝ }
+{
+    let pair = Pair {
+        stamp: Stamp {
+            time: Time(0),
+            process: Pid(0),
+        },
+        value: 0,
+    };
+    let replica = Replica {
+        crashed: false,
+        clock: Time(0),
+        rid: Rid(0),
+        phase: Phase::Idle,
+        repliers: 0,
+        pairs: [pair; 16],
+    };
+    Bench {
+        n: n,
+        m: m,
+        accepted: 0,
+        sent: 0,
+        delivered: 0,
+        lost: 0,
+        flight: 0,
+        rows: 0,
+        replicas: [replica; 7],
+    }
+}
+
+// The first check that holds, 0 if none does.
+fn start_refusal(n: u8, m: u8, messages: usize, rows: usize) -> u8
+    ensures { λ r. ⌜ r ≡ startRefusal n m messages rows ⌝ }
+{
+    if (messages == 512) & (rows == 1024) {
+        if is_within(n, PROCESSES) {
+            if is_within(m, REGISTERS) { 0 } else { 5 }
+        } else {
+            4
+        }
+    } else {
+        18
+    }
+}
+
+pub fn is_start(n: u8, m: u8, messages: usize, rows: usize) -> bool
+    ensures { λ r. ⌜ r ≡ starts n m messages rows ⌝ }
+{
+    start_refusal(n, m, messages, rows) == 0
+}
+
+pub fn start_reply(n: u8, m: u8, messages: usize, rows: usize) -> Stepped
+    ensures { λ r. ⌜ r ≡ startReply n m messages rows ⌝ }
+{
+    let refusal = start_refusal(n, m, messages, rows);
+    if refusal == 0 {
+        return Stepped {
+            refusal: 0,
+            bench: fresh_bench(n, m),
+        };
+    }
+    Stepped {
+        refusal: refusal,
+        bench: fresh_bench(0, 0),
+    }
+}
+
+// The standings, or a refused status.
+pub fn standings_if(b: Bench, ok: bool) -> Statuses
+    requires { ⌜ (ok ≡ true → length (b .replicas) ≡ 7) ⌝ }
+    ensures { λ r. ⌜ r ≡ cond ok (standingsOf b) (downs 18) ⌝ }
+{
+    if ok {
+        return standings_of(b);
+    }
+    all_down(18)
+}
+
+// The bench as it was, and 18.
+pub fn refused(b: Bench) -> Stepped
+    ensures { λ r. ⌜ r ≡ unformed b ⌝ }
+{
+    Stepped {
+        refusal: 18,
+        bench: b,
+    }
+}
