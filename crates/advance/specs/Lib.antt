@@ -7,3 +7,4 @@ pub mod Steps
 pub mod Answers
 pub mod StepLaws
 pub mod Advances
+pub mod TabledLaws

@@ -3,3 +3,5 @@ pub mod StartLaws
 pub mod TabledUse
 pub mod Reply
 pub mod ReplyLaws
+pub mod Listing
+pub mod ListingLaws

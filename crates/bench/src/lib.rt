@@ -7,9 +7,11 @@ ghost use Rattle.state.specs.State.{view};
 ghost use Rattle.state.specs.Tabled.{tabled};
 ghost use Rattle.standing.specs.Status.{statuses, downs};
 ghost use Rattle.bench.specs.Start.{starts, startReply};
+ghost use Rattle.bench.specs.Listing.{listReply, listLeft};
 ghost use Rattle.bench.specs.Reply.{stepReply, stepMessages, stepRows};
 use advance::advance;
 use judge::is_tabled;
+use order::fill_order;
 use standing::Statuses;
 use state::Bench;
 use state::Event;
@@ -22,6 +24,12 @@ use tables::row_count;
 use words::Message;
 
 mod replies;
+
+// The reply to `order`: how many row numbers were laid.
+pub struct Ordered {
+    pub refusal: u8,
+    pub count: u16,
+}
 
 // Every place of the table is emptied, or none.
 fn clear_messages_if(t: &mut [Message], clear: bool)
@@ -77,4 +85,20 @@ pub fn step(b: Bench, event: Event, messages: &mut [Message], rows: &mut [Row]) 
         return advance(&mut *messages, &mut *rows, b, event);
     }
     replies::refused(b)
+}
+
+// The one order of the history, as row numbers, laid into a lent table of 1,024 places, with zeros behind it.
+pub fn order(b: Bench, messages: &[Message], rows: &[Row], out: &mut [u16]) -> Ordered
+    ensures { λ r. ⌜
+        (r ≡ listReply b (now (messages .entry)) (now (rows .entry)) (now (out .entry)))
+        × (now (out .exit) ≡ listLeft b (now (messages .entry)) (now (rows .entry)) (now (out .entry)))
+        ⌝ }
+{
+    let formed = is_tabled(b, messages, rows);
+    let places = out.len();
+    if replies::can_list(formed, places) {
+        let count = fill_order(rows, b.rows, &mut *out);
+        return replies::listing(count);
+    }
+    replies::no_listing()
 }

@@ -7,7 +7,9 @@ ghost use Rattle.state.specs.State.{freshReplica, fresh};
 ghost use Rattle.state.specs.Tabled.{benchOf};
 ghost use Rattle.standing.specs.Status.{standingsOf, downs};
 ghost use Rattle.bench.specs.Start.{startRefusal, starts, startReply};
+ghost use Rattle.bench.specs.Listing.{canList, listedReply, unlisted};
 ghost use Rattle.bench.specs.Reply.{unformed};
+use crate::Ordered;
 use replica::Phase;
 use replica::Replica;
 use standing::Statuses;
@@ -111,5 +113,30 @@ pub fn refused(b: Bench) -> Stepped
     Stepped {
         refusal: 18,
         bench: b,
+    }
+}
+
+// The order is given where all is well formed and the table has its length.
+pub fn can_list(formed: bool, places: usize) -> bool
+    ensures { λ r. ⌜ r ≡ canList formed places ⌝ }
+{
+    formed & (places == 1024)
+}
+
+pub fn listing(count: u16) -> Ordered
+    ensures { λ r. ⌜ r ≡ listedReply count ⌝ }
+{
+    Ordered {
+        refusal: 0,
+        count: count,
+    }
+}
+
+pub fn no_listing() -> Ordered
+    ensures { λ r. ⌜ r ≡ unlisted ⌝ }
+{
+    Ordered {
+        refusal: 18,
+        count: 0,
     }
 }
