@@ -59,7 +59,7 @@ pub record Tells (b : Bench) (messages : List Message) (rows : List Row) : Type 
   pub reached : Reached (view b messages rows)
   pub formed : tabled b messages rows ≡ true
 
-tells : (s : State) (b : Bench) (messages : List Message) (rows : List Row) → Reached s → Holds s b messages rows → Tells b messages rows
+pub tells : (s : State) (b : Bench) (messages : List Message) (rows : List Row) → Reached s → Holds s b messages rows → Tells b messages rows
 tells s b messages rows r h =
     record {
       reached = subst Reached (sym (holds-view s b messages rows h)) r;
@@ -87,10 +87,9 @@ pub record Explained (b : Bench) (messages : List Message) (rows : List Row) (ou
   pub consistent : Sequential (pos 0) (operationsOf (history b messages rows)) numbers
   pub in-time : RealTime (operationsOf (history b messages rows)) numbers
 
-pub order-explains : (b : Bench) (messages : List Message) (rows : List Row) (out : List ℕ) → Lent b messages rows → length out ≡ 1024 → Explained b messages rows out
+pub explained : (b : Bench) (messages : List Message) (rows : List Row) (out : List ℕ) → Tells b messages rows → length out ≡ 1024 → Explained b messages rows out
 unfolding listReply listLeft
-order-explains b messages rows out l long =
-    let told = lent b messages rows l in
+explained b messages rows out told long =
     record {
       numbers = orderOf (history b messages rows);
       reply = rw (told .formed, long) refl;
@@ -98,3 +97,6 @@ order-explains b messages rows out l long =
       consistent = sequential (view b messages rows) (told .reached);
       in-time = realTime (view b messages rows) (told .reached);
     }
+
+pub order-explains : (b : Bench) (messages : List Message) (rows : List Row) (out : List ℕ) → Lent b messages rows → length out ≡ 1024 → Explained b messages rows out
+order-explains b messages rows out l = explained b messages rows out (lent b messages rows l)

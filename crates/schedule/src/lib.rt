@@ -1,0 +1,59 @@
+// A schedule's events, carried out one after another on a bench and its two lent tables.
+ghost use mathlib.Core.Path.{_≡_};
+ghost use mathlib.Core.Bool.{true};
+ghost use Rattle.state.specs.Tabled.{tabled};
+ghost use Rattle.schedule.specs.Turns.{Turned, RanOn};
+use format::Parse;
+use format::events;
+use state::Bench;
+use state::Stepped;
+use tables::Row;
+use words::Message;
+
+pub mod turns;
+
+// What one turn comes to: whether the run goes on, and at which place; the number of refusal, and the bench.
+pub struct Turn {
+    pub go: bool,
+    pub refusal: u8,
+    pub bench: Bench,
+    pub at: usize,
+}
+
+// One turn: an event is carried out, all else stops the run.
+fn one_event(messages: &mut [Message], rows: &mut [Row], bench: Bench, parse: Parse) -> Turn
+    requires { ⌜ tabled bench (now messages) (now rows) ≡ true ⌝ }
+    ensures { λ r. ⌜ Turned bench parse (now (messages .entry)) (now (rows .entry)) r (now (messages .exit)) (now (rows .exit)) ⌝ }
+{
+    let next = turns::is_next(parse);
+    if next {
+        let event = turns::event_of(parse);
+        let at = turns::behind(parse);
+        let stepped = advance::advance(&mut *messages, &mut *rows, bench, event);
+        return turns::went_on(stepped, at);
+    }
+    let number = turns::number_of(parse);
+    turns::stop(bench, number)
+}
+
+// The events from a place on, up to the end or the first refusal.
+pub fn run_events(
+    messages: &mut [Message],
+    rows: &mut [Row],
+    bench: Bench,
+    bytes: &[u8],
+    at: usize,
+) -> Stepped
+    requires { ⌜ tabled bench (now messages) (now rows) ≡ true ⌝ }
+    ensures { λ r. ⌜ RanOn bench (now (bytes .entry)) at (now (messages .entry)) (now (rows .entry)) r (now (messages .exit)) (now (rows .exit)) ⌝ }
+{
+    let mut turn = turns::begun(bench, at);
+    while turns::goes_on(turn) {
+        let place = turns::place_in(turn);
+        let parse = events::event_at(bytes, place);
+        let held = turns::bench_in(turn);
+        let next = one_event(&mut *messages, &mut *rows, held, parse);
+        turn = next;
+    }
+    turns::ended(turn)
+}
