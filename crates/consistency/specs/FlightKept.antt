@@ -21,7 +21,7 @@ use Rattle.state.specs.State.{State, replicaOf, rowOf}
 use Rattle.consistency.specs.Held.{Held, clockAt, storedAt}
 use Rattle.consistency.specs.Moves.{Bears, Sent, Turn, Move, reached, clockThen, writtenPair, own-clock, own-rid, own-phase}
 use Rattle.consistency.specs.Moves.Move.{rests, reads, writes, responds, stores, counts, chooses, gathers, completes}
-use Rattle.consistency.specs.Sound.{Sound, From, Carried, Says, QueryOf, UpdateOf, ResponseOf, AckOf, said}
+use Rattle.consistency.specs.Sound.{begun-by, Sound, From, Carried, Says, QueryOf, UpdateOf, ResponseOf, AckOf, said}
 use Rattle.consistency.specs.Kept.{Kept, carried-kept, from-kept, while-asking, while-telling}
 use Rattle.consistency.specs.Counted.{asked-more}
 use Rattle.consistency.specs.Begun.{last-row, written-source}
@@ -32,7 +32,7 @@ module _ {s t : State} {held after : Held} (sound : Sound s held) (kept : Kept s
       → (message : Message) → List·Memᴰ message (t .flight) → Carried t after message
   turn-flight turn new message m =
       elim (turn .flight message m) [
-        | inl old ↦ carried-kept kept (sound .waits) message (sound .flight message old)
+        | inl old ↦ carried-kept kept (sound .waits) message (sound .begun message old) (sound .flight message old)
         | inr sent ↦ new message sent
       ]
 
@@ -59,7 +59,6 @@ module _ {s t : State} {held after : Held} (sound : Sound s held) (kept : Kept s
         record {
           first = first;
           last = last;
-          begun = rw (b .sender) (omega (arith, b .rid));
           meant = rw (b .sender) λ j best e f. subst (λ (j : ℕ). QueryOf m x (rowOf t j)) (cc) (register, omega (arith, b .time));
         }
 
@@ -70,7 +69,6 @@ module _ {s t : State} {held after : Held} (sound : Sound s held) (kept : Kept s
         record {
           first = first;
           last = last;
-          begun = rw (b .sender) (omega (arith, b .rid));
           early = omega (arith, b .time);
           source = source;
           meant = rw (b .sender) λ j sent e f. (subst (λ (j : ℕ). rowOf t j .register ≡ x) (cc) register, cc);
@@ -95,15 +93,13 @@ module _ {s t : State} {held after : Held} (sound : Sound s held) (kept : Kept s
         let asks = said c body in
         let store = sound .stores k (c .to-first) in
         let place : suc (x - 1) ≡ x = omega (arith, asks .first) in
-        let newer = kept .traced (message .from .0) (c .from-first) .rid in
         let early = store .early (x - 1) in
         let source = from-kept kept x pair (rw (place, same) at (store .source (x - 1))) in
         record {
-          begun = rw to (omega (arith, b .rid, asks .begun));
           early = rw (← same) (omega (arith, b .time));
           meant = rw (to, b .rid)
               (while-asking kept (sound .waits) (message .from .0) (message .rid .0) (QueryOf message x) (ResponseOf t after m pair)
-              (c .from-first) (asks .begun)
+              (c .from-first) (begun-by sound message flying (Query x) body)
               (λ r then kept-row h.
               let invoked : then .invoked .0 ≤ clockAt t k = omega (arith, kept-row .invoked, h .1) in
               rw (b .sender, kept-row .register ∙ h .0) (
@@ -123,11 +119,9 @@ module _ {s t : State} {held after : Held} (sound : Sound s held) (kept : Kept s
     ack-sent pair body now clock b =
         let c = sound .flight message flying in
         let tells = said c body in
-        let newer = kept .traced (message .from .0) (c .from-first) .rid in
         record {
-          begun = rw to (omega (arith, b .rid, tells .begun));
           meant = rw (to, b .rid)
-              (while-telling kept (sound .waits) (message .from .0) (message .rid .0) (UpdateOf x pair) (AckOf after m) (c .from-first) (tells .begun)
+              (while-telling kept (sound .waits) (message .from .0) (message .rid .0) (UpdateOf x pair) (AckOf after m) (c .from-first) (begun-by sound message flying (Update x pair) body)
               (λ r then sent kept-row h.
               rw (b .sender, b .time, ← clock, kept-row .register ∙ h .0, h .1, kept .recalls .now k (clockAt t k) x (c .to-first) (omega arith)) now)
               (tells .meant));

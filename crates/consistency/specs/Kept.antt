@@ -20,7 +20,7 @@ use Rattle.tables.specs.declared.Row.{Row}
 use Rattle.tables.specs.Tables.{emptyRow}
 use Rattle.state.specs.State.{State, replicaOf, rowOf}
 use Rattle.consistency.specs.Held.{Held, Recalls, clockAt}
-use Rattle.consistency.specs.Sound.{From, Quorum, Below, Above, Stores, Serves, Asking, Telling, Numbered, Waits}
+use Rattle.consistency.specs.Sound.{Begun, From, Quorum, Below, Above, Stores, Serves, Asking, Telling, Numbered, Waits}
 use Rattle.consistency.specs.Sound.{WhileAsking, WhileTelling, QueryOf, UpdateOf, ResponseOf, AckOf, Says, Carried, Done, Entered}
 
 pub record RowKept (r after : Row) : Type 0 where
@@ -156,55 +156,47 @@ module _ {s t : State} {held after : Held} (kept : Kept s held t after) where
           | inr (g, h) ↦ move (rowOf s i) (rowOf t i) sent (row-kept i (waits p first .telling i sent g .0)) (meant i sent g (h ∙ f))
         ]
 
-    says-kept : (message : Message) (body : Body) → Carried s held message → Says s held message body → Says t after message body
-    says-kept message (Query x) c old =
-        let newer = kept .traced (message .from .0) (c .from-first) .rid in
+    says-kept : (message : Message) (body : Body) → Begun s message body → Carried s held message → Says s held message body → Says t after message body
+    says-kept message (Query x) begun c old =
         record {
           first = old .first;
           last = old .last;
-          begun = omega (arith, old .begun);
-          meant = while-asking (message .from .0) (message .rid .0) (QueryOf message x) (QueryOf message x) (c .from-first) (old .begun)
+          meant = while-asking (message .from .0) (message .rid .0) (QueryOf message x) (QueryOf message x) (c .from-first) begun
               (λ r then k h. (k .register ∙ h .0, rw (k .invoked) (h .1))) (old .meant);
         }
-    says-kept message (Response pair) c old =
-        let newer = kept .traced (message .to .0) (c .to-first) .rid in
+    says-kept message (Response pair) begun c old =
         record {
-          begun = omega (arith, old .begun);
           early = old .early;
           meant = while-asking (message .to .0) (message .rid .0) (ResponseOf s held message pair) (ResponseOf t after message pair)
-              (c .to-first) (old .begun)
+              (c .to-first) begun
               (λ r then k h.
               rw (k .invoked, k .register) (below-kept r (pair .stamp) (message .from .0) (c .from-first) (h .0), from-kept (r .register) pair (h .1)))
               (old .meant);
         }
-    says-kept message (Update x pair) c old =
-        let newer = kept .traced (message .from .0) (c .from-first) .rid in
+    says-kept message (Update x pair) begun c old =
         record {
           first = old .first;
           last = old .last;
-          begun = omega (arith, old .begun);
           early = old .early;
           source = from-kept x pair (old .source);
-          meant = while-telling (message .from .0) (message .rid .0) (UpdateOf x pair) (UpdateOf x pair) (c .from-first) (old .begun)
+          meant = while-telling (message .from .0) (message .rid .0) (UpdateOf x pair) (UpdateOf x pair) (c .from-first) begun
               (λ r then sent k h. (k .register ∙ h .0, h .1)) (old .meant);
         }
-    says-kept message Ack c old =
-        let newer = kept .traced (message .to .0) (c .to-first) .rid in
+    says-kept message Ack begun c old =
         record {
-          begun = omega (arith, old .begun);
-          meant = while-telling (message .to .0) (message .rid .0) (AckOf held message) (AckOf after message) (c .to-first) (old .begun)
+          meant = while-telling (message .to .0) (message .rid .0) (AckOf held message) (AckOf after message) (c .to-first) begun
               (λ r then sent k h. rw (k .register) (above-kept r (sent .stamp) (message .time .0) (message .from .0) (c .from-first) h))
               (old .meant);
         }
 
-    pub carried-kept : (message : Message) → Carried s held message → Carried t after message
-    carried-kept message c =
+    pub carried-kept : (message : Message) → Begun s message (message .body) → Carried s held message → Carried t after message
+    carried-kept message begun c =
         record {
           from-first = c .from-first;
           from-last = rw (kept .processes) (c .from-last);
           to-first = c .to-first;
           to-last = rw (kept .processes) (c .to-last);
-          says = says-kept message (message .body) c (c .says);
+          says = says-kept message (message .body) begun c (c .says);
         }
 
   -- ---- a row that is as it was

@@ -2,7 +2,7 @@
 -- that a move has to be looked at only where it changes one. A message is bound only while its request is the one that its process waits for.
 use Prim.Native.Nat.{ℕ, suc, _≤_, _<_}
 use mathlib.Core.Path.{_≡_, subst}
-use mathlib.Core.Bool.{true}
+use mathlib.Core.Bool.{true, cond}
 use mathlib.Core.List.{List, List·Memᴰ}
 use mathlib.Core.Logic.{_⊎_}
 use lib.ListN.{length, getD}
@@ -20,6 +20,7 @@ use Rattle.tables.specs.declared.Kind.the-variants.{Read, Write}
 use Rattle.tables.specs.declared.Row.{Row}
 use Rattle.tables.specs.Tables.{emptyRow}
 use Rattle.state.specs.State.{State, replicaOf, rowOf, pointed}
+use Rattle.sc_abd.specs.RequestNumbers.{isReply}
 use Rattle.consistency.specs.Held.{Held, Recalls, clockAt}
 
 -- ---- where a pair comes from
@@ -121,24 +122,20 @@ AckOf held message r sent = Above held r (sent .stamp) (message .time .0) (messa
 pub record Asks (s : State) (message : Message) (x : ℕ) : Type 0 where
   pub first : 1 ≤ x
   pub last : x ≤ 16
-  pub begun : message .rid .0 ≤ replicaOf s (message .from .0) .rid .0
   pub meant : WhileAsking s (message .from .0) (message .rid .0) (QueryOf message x)
 
 pub record Tells (s : State) (message : Message) (x : ℕ) (pair : Pair) : Type 0 where
   pub first : 1 ≤ x
   pub last : x ≤ 16
-  pub begun : message .rid .0 ≤ replicaOf s (message .from .0) .rid .0
   pub early : pair .stamp .time .0 ≤ message .time .0
   pub source : From (s .rows) x pair
   pub meant : WhileTelling s (message .from .0) (message .rid .0) (UpdateOf x pair)
 
 pub record Responded (s : State) (held : Held) (message : Message) (pair : Pair) : Type 0 where
-  pub begun : message .rid .0 ≤ replicaOf s (message .to .0) .rid .0
   pub early : pair .stamp .time .0 ≤ message .time .0
   pub meant : WhileAsking s (message .to .0) (message .rid .0) (ResponseOf s held message pair)
 
 pub record Acked (s : State) (held : Held) (message : Message) : Type 0 where
-  pub begun : message .rid .0 ≤ replicaOf s (message .to .0) .rid .0
   pub meant : WhileTelling s (message .to .0) (message .rid .0) (AckOf held message)
 
 abbrev pub Says : State → Held → Message → Body → Type 0
@@ -153,6 +150,10 @@ pub record Carried (s : State) (held : Held) (message : Message) : Type 0 where
   pub to-first : 1 ≤ message .to .0
   pub to-last : message .to .0 ≤ s .n
   pub says : Says s held message (message .body)
+
+-- its number is one that its asker has reached, by the body that it has
+abbrev pub Begun : State → Message → Body → Type 0
+Begun s message body = message .rid .0 ≤ replicaOf s (cond (isReply body) (message .to .0) (message .from .0)) .rid .0
 
 -- what a message says, by the body that it has
 pub said : {s : State} {held : Held} {message : Message} {body : Body} → Carried s held message → message .body ≡ body → Says s held message body
@@ -196,5 +197,11 @@ pub record Sound (s : State) (held : Held) : Type 0 where
   pub stores : (q : ℕ) → 1 ≤ q → Stores s q
   pub waits : (q : ℕ) → 1 ≤ q → Waits s held q
   pub flight : (message : Message) → List·Memᴰ message (s .flight) → Carried s held message
+  -- of the invariant of request numbers, which demand 2 has
+  pub begun : (message : Message) → List·Memᴰ message (s .flight) → Begun s message (message .body)
   pub rows : (j : ℕ) → j < length (s .rows) → Entered s held (getD (s .rows) j emptyRow)
   pub turns : Turns s
+
+-- by a body that it is known to have
+pub begun-by : {s : State} {held : Held} → Sound s held → (message : Message) → List·Memᴰ message (s .flight) → (body : Body) → message .body ≡ body → Begun s message body
+begun-by {s} sound message flying body e = subst (Begun s message) e (sound .begun message flying)

@@ -1,10 +1,11 @@
 -- Every state that accepted events give from a fresh start is sound, beside what its processes held.
 use Prim.Native.Nat.{ℕ, zero, suc, _-_, _≤_}
-use mathlib.Core.Path.{_≡_, refl, sym, ap, _∙_}
-use mathlib.Core.List.{List·Memᴰ·not-nil}
+use mathlib.Core.Path.{_≡_, refl, sym, ap, subst, _∙_}
+use mathlib.Core.List.{List, [], _∷_, List·Memᴰ, List·Memᴰ·head, List·Memᴰ·tail, List·Memᴰ·not-nil}
 use mathlib.Core.Logic.{inl}
 use native.Mathlib.Omega.{arith}
 use lib.ListN.{length, getD, replicate}
+use Rattle.words.specs.declared.Message.{Message}
 use Rattle.words.specs.declared.Pair.{Pair}
 use Rattle.words.specs.RangeLaws.{within-most}
 use Rattle.words.specs.Stamps.{startPair, startStamp}
@@ -18,7 +19,10 @@ use Rattle.state.specs.Reached.Reached.{start, next}
 use Rattle.consistency.specs.Held.{Held, heldIn, heldAfter}
 use Rattle.consistency.specs.Moves.{Move}
 use Rattle.consistency.specs.MoveLaws.{moves}
-use Rattle.consistency.specs.Sound.{Sound}
+use Rattle.sc_abd.specs.Lists.{All}
+use Rattle.sc_abd.specs.RequestNumbers.{Numbered, Timely, asker}
+use Rattle.sc_abd.specs.RequestNumbersReached.{reached-numbered}
+use Rattle.consistency.specs.Sound.{Sound, Begun}
 use Rattle.consistency.specs.MoveKept.{move-kept}
 use Rattle.consistency.specs.StoresKept.{move-stores}
 use Rattle.consistency.specs.WaitsKept.{move-waits, now-idle}
@@ -55,14 +59,26 @@ module _ (n m : ℕ) where
         };
         waits = λ q first. now-idle (fresh n m) (λ k time x. startStamp) q freshReplica (fresh-replica q) (inside-empty n) refl refl;
         flight = λ message f. absurd (List·Memᴰ·not-nil f);
+        begun = λ message f. absurd (List·Memᴰ·not-nil f);
         rows = λ j l. absurd (omega arith);
         turns = record { pending = λ j l. absurd (omega arith); inTurn = λ i j l k. absurd (omega arith) };
       }
 
+-- ---- request numbers, by the invariant of demand 2
+
+member-of-all : {A : Type 0} (P : A → Type 0) {a : A} (xs : List A) → All P xs → List·Memᴰ a xs → P a
+member-of-all P [] all m = absurd (List·Memᴰ·not-nil m)
+member-of-all P (x ∷ xs) all (List·Memᴰ·head e) = subst P (sym e) (all .0)
+member-of-all P (x ∷ xs) all (List·Memᴰ·tail m) = member-of-all P xs (all .1) m
+
+numbers-begun : (t : State) → Numbered t → (message : Message) → List·Memᴰ message (t .flight) → Begun t message (message .body)
+numbers-begun t numbered message flying =
+    member-of-all (λ m. (1 ≤ asker m) × Timely (replicaOf t (asker m)) m) (t .flight) (numbered .timely) flying .1 .reached
+
 -- ---- a move
 
-move-sound : {s t : State} {held : Held} → Sound s held → Move s t → Sound t (heldAfter held t)
-move-sound {t = t} sound move =
+move-sound : {s t : State} {held : Held} → Sound s held → Numbered t → Move s t → Sound t (heldAfter held t)
+move-sound {t = t} sound numbered move =
     let kept = move-kept sound move in
     record {
       sized = record {
@@ -74,6 +90,7 @@ move-sound {t = t} sound move =
       stores = move-stores sound kept move;
       waits = move-waits sound kept move;
       flight = move-flight sound kept move;
+      begun = numbers-begun t numbered;
       rows = move-entered sound kept move;
       turns = move-turns t sound move;
     }
@@ -87,4 +104,4 @@ reached-sound (next s e r z) = continued (reached-sound r)
     continued sound =
         let few = sound .sized .few in
         let move = moves s (sound .sized .seven) few (λ message m. let c = sound .flight message m in (c .to-first, omega (arith, c .to-last))) e z in
-        move-sound sound move
+        move-sound sound (reached-numbered (step s e .state) (next s e r z)) move
