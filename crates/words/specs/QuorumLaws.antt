@@ -1,4 +1,4 @@
--- Laws of the replier set: who is in it, how its count moves, and that two majorities share a process (P1 of the request).
+-- Laws of the replier set: who is in it, how its count moves, and that two majorities share a process.
 use Prim.Native.Nat.{ℕ, zero, suc, _+_, _-_, _/_, _%_, _^_, _≤_, _<_, max}
 use mathlib.Core.Bool.{Bool, true, false, true≢false}
 use mathlib.Core.Logic.{_⊎_, inl, inr}
@@ -239,8 +239,3 @@ meet n s t l hs ht more =
 
 pub majorities-meet : (n s t : ℕ) → n ≤ 7 → Inside n s → Inside n t → majorityOf n ≤ counted s → majorityOf n ≤ counted t → Shared n s t
 majorities-meet n s t l hs ht a b = meet n s t l hs ht (omega arith)
-
--- P1: the majorities of 1 to 7 processes
-pub majorities : (majorityOf 1 ≡ 1) × (majorityOf 2 ≡ 2) × (majorityOf 3 ≡ 2) × (majorityOf 4 ≡ 3)
-    × (majorityOf 5 ≡ 3) × (majorityOf 6 ≡ 4) × (majorityOf 7 ≡ 4)
-majorities = (refl, refl, refl, refl, refl, refl, refl)

@@ -1,4 +1,4 @@
--- Laws of `below` and `newer`: stamps are in one strict order, and a kept pair's stamp never falls (document 01, "State"; P2 of the request).
+-- Laws of `below` and `newer`: stamps are in one strict order, and a kept pair's stamp never falls (document 01, "State").
 use Prim.Native.Nat.{ℕ, _≤_, _<_}
 use mathlib.Core.Bool.{Bool, true, false, not, cond, _&&_, _||_, or-true}
 use mathlib.Core.Logic.{_⊎_, inl, inr}
@@ -9,7 +9,7 @@ use lib.Dec.{T, T-not, not-T, ltb, eqb, ltb→lt, eqb→eq}
 use borrow.Author.Tests.{lt-ltb, eq-eqb}
 use Rattle.words.specs.declared.Stamp.{Stamp}
 use Rattle.words.specs.declared.Pair.{Pair}
-use Rattle.words.specs.Stamps.{stampOf, startStamp, below, newer}
+use Rattle.words.specs.Stamps.{startStamp, below, newer}
 
 -- ---- `below`, read as a fact and said from one
 
@@ -172,17 +172,3 @@ pub newer-monotone : (a b p : Pair) → AtMost (a .stamp) (b .stamp) → AtMost 
 newer-monotone a b p h =
     newer-least a p (newer b p .stamp)
     (atMost-transitive (a .stamp) (b .stamp) (newer b p .stamp) h (newer-left b p)) (newer-right b p)
-
--- ---- P2: (2, 1) is below (2, 3), (2, 3) is below (3, 1), and (2, 3) is not below itself
-
-pub by-process : T (below (stampOf 2 1) (stampOf 2 3))
-unfolding below
-by-process = tt
-
-pub by-time : T (below (stampOf 2 3) (stampOf 3 1))
-unfolding below
-by-time = tt
-
-pub not-itself : T (not (below (stampOf 2 3) (stampOf 2 3)))
-unfolding below
-not-itself = tt
