@@ -1,5 +1,5 @@
-// One replica: its state, and the handlers of one process. Everything goes by value, and every public function is total: it has no
-// `requires`.
+// One replica: its state, and the handlers of one process. Every public function goes by value, and is total: it has no `requires`. Inside,
+// a clock is lent (`clock.rt`).
 use words::Body;
 use words::Pair;
 use words::Pid;
