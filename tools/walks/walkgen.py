@@ -14,6 +14,7 @@ A description is a Python file that sets
   uses                further `use` lines (of your specs, Flow, Lists, ..)
   loop                True where the walk takes a `Tables` 𝓣: it has a loop, or an arm that ends in a call (`lasts`)
   structs             further structs as parameters, {'Limits': 'Rattle.judge.specs.declared.Limits', ..}: the kind is the struct's name, its facts are in the module OfLimits of the crate's proofs (R, val, vals, tells, typed, makes, imported as RLimits, valLimits, ..); where that module is another crate's, a pair: its record's module, and that module's full name
+  alias               how the module of the function is called in the proof (default: as the function; a function called `run` needs another)
   own                 the names of Callees.antt of the crate itself, beside MessageCalls and RowCalls of lib. A callee in a module is named with a dot: ('messages.scan_message', 'ScanMessage', 'judge')
   root                the repository (default: the folder above this one)        second   the struct of R₂ (default Entry; its module is Row<second>)
 Macros in walk, where _i is a local's number; positions are right while the context is [slice; token; true; what the others own; locals]:
@@ -312,6 +313,10 @@ unfolding code.routine tablesOf
     ({name}-meets 𝓤 H (𝓖 .A) (givenOf 𝓤 H 𝓜 𝓖) (𝓜 .mem) (𝓡 .run) (tablesOf 𝓤 H 𝓜 (tables 𝓤 H 𝓜 𝓡 code.env))
 {cites})
 '''
+alias=d.get('alias',name)
+if alias!=name:
+    body=re.sub(r'(?<![\w\-#])'+name+r'\.(?=signature|ended|clauses|spec)',alias+'.',body)
+    uses=[f'use Rattle.{crate}.proofs.{fn} as {alias}' if u==f'use Rattle.{crate}.proofs.{fn} as {name}' else u for u in uses]
 # keep only the imports that are used
 import unicodedata
 kept=[]

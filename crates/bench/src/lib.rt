@@ -23,7 +23,7 @@ use tables::message_count;
 use tables::row_count;
 use words::Message;
 
-mod replies;
+pub mod replies;
 
 // The reply to `order`: how many row numbers were laid.
 pub struct Ordered {

@@ -27,7 +27,7 @@ use words::ranges::REGISTERS;
 use words::ranges::is_within;
 
 // A bench that was just started; of 0 processes and 0 registers it is none.
-fn fresh_bench(n: u8, m: u8) -> Bench
+pub fn fresh_bench(n: u8, m: u8) -> Bench
     ensures { λ r. ⌜ r ≡ benchOf (fresh n m) ⌝ }
 {
     let pair = Pair {

@@ -1,3 +1,5 @@
 pub mod Parses
 pub mod OfTurn
 pub mod Callees
+pub mod Mut2Ref
+pub mod FileCalls

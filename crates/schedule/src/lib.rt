@@ -1,16 +1,26 @@
-// A schedule's events, carried out one after another on a bench and its two lent tables.
+// A schedule on a bench: the events of a file, carried out one after another on two lent tables; and a whole file, from its first byte.
 ghost use mathlib.Core.Path.{_≡_};
 ghost use mathlib.Core.Bool.{true};
+ghost use lib.ListN.{length};
 ghost use Rattle.state.specs.Tabled.{tabled};
+ghost use Rattle.schedule.specs.Opening.{runReply, runMessages, runRows};
 ghost use Rattle.schedule.specs.Turns.{Turned, RanOn};
 use format::Parse;
 use format::events;
 use state::Bench;
 use state::Stepped;
 use tables::Row;
+use tables::clear_messages;
+use tables::clear_rows;
+use tables::message_count;
+use tables::row_count;
 use words::Message;
 
+pub mod opening;
 pub mod turns;
+
+// Events stand behind length, version, N and M.
+const FIRST_EVENT: usize = 7;
 
 // What one turn comes to: whether the run goes on, and at which place; the number of refusal, and the bench.
 pub struct Turn {
@@ -56,4 +66,24 @@ pub fn run_events(
         turn = next;
     }
     turns::ended(turn)
+}
+
+// A whole file, from a fresh bench on. A file that starts none leaves both tables as they were.
+pub fn run(messages: &mut [Message], rows: &mut [Row], bytes: &[u8]) -> Stepped
+    ensures { λ r. ⌜
+        (r ≡ runReply (length (now (messages .entry))) (length (now (rows .entry))) (now (bytes .entry)))
+        × ((now (messages .exit) ≡ runMessages (now (bytes .entry)) (now (messages .entry)) (now (rows .entry)))
+        × (now (rows .exit) ≡ runRows (now (bytes .entry)) (now (messages .entry)) (now (rows .entry))))
+        ⌝ }
+{
+    let places = message_count(&*messages);
+    let history = row_count(&*rows);
+    let opened = opening::opening(bytes, places, history);
+    if opening::is_open(opened) {
+        clear_messages(&mut *messages);
+        clear_rows(&mut *rows);
+        let bench = opening::bench_of(opened);
+        return run_events(&mut *messages, &mut *rows, bench, bytes, FIRST_EVENT);
+    }
+    opened
 }

@@ -1,0 +1,3 @@
+pub mod MutRef2
+pub mod Shared
+pub mod Callees
