@@ -1,3 +1,4 @@
 pub mod Lent
 pub mod LentLaws
 pub mod ScheduleLaws
+pub mod ReplayLaws
