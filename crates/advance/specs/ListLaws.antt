@@ -1,28 +1,17 @@
 -- Laws of lists that a table holds in its first places, with empty places behind them.
 use mathlib.Core.Path.{_≡_, refl, sym, ap, _∙_}
 use Prim.Native.Nat.{ℕ, zero, suc, _+_, _-_, _<_, _≤_}
-use native.Mathlib.Nat.{not-suc-le-zero, le-of-suc-le-suc}
 use native.Mathlib.Omega.{arith}
 use mathlib.Core.List.{List, [], _∷_, _++_, append-assoc}
 use lib.ListN.{length, getD, set, take, drop, replicate, length-append, length-set}
 use lib.Seq.{take-append-seam, drop-append-seam, drop-append-add, set-append-left, set-append-seam}
 use Rattle.tables.specs.Tables.{removed, laidAt}
+use Rattle.state.specs.EveryLaws.{length-removed, getD-empty}
 
 module _ {A : Type 0} where
-  -- within, what stands past the end makes no difference
-  pub getD-default : (xs : List A) (i : ℕ) (d e : A) → i < length xs → getD xs i d ≡ getD xs i e
-  getD-default [] i d e l = absurd (not-suc-le-zero l)
-  getD-default (x ∷ xs) zero d e l = refl
-  getD-default (x ∷ xs) (suc i) d e l = getD-default xs i d e (le-of-suc-le-suc l)
-
   -- the first places of a table of so many
   abbrev pub laid : ℕ → A → List A → List A
   laid most d xs = xs ++ replicate (most - length xs) d
-
-  getD-empty : (n i : ℕ) (d : A) → getD (replicate n d) i d ≡ d
-  getD-empty zero i d = refl
-  getD-empty (suc n) zero d = refl
-  getD-empty (suc n) (suc i) d = getD-empty n i d
 
   pub getD-laid : (n : ℕ) (d : A) (xs : List A) (i : ℕ) → getD (xs ++ replicate n d) i d ≡ getD xs i d
   getD-laid n d [] i = getD-empty n i d
@@ -41,10 +30,8 @@ module _ {A : Type 0} where
       left : most - length xs - length ys ≡ most - length (xs ++ ys)
       left = omega (arith, length-append xs ys)
 
-  pub length-removed : (i : ℕ) (xs : List A) → i < length xs → length (removed i xs) ≡ length xs - 1
-  length-removed i [] l = absurd (not-suc-le-zero l)
-  length-removed zero (x ∷ xs) l = omega arith
-  length-removed (suc i) (x ∷ xs) l = omega (arith, length-removed i xs (le-of-suc-le-suc l))
+  pub length-less : (i : ℕ) (xs : List A) → i < length xs → length (removed i xs) ≡ length xs - 1
+  length-less i xs l = omega (arith, length-removed i xs l)
 
   -- one is taken off
   pub laid-less : (most : ℕ) (d : A) (xs : List A) (i : ℕ) → i < length xs → length xs ≤ most

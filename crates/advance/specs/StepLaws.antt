@@ -6,9 +6,9 @@ use mathlib.Core.Bool.{Bool, true, false, not, cond, _||_}
 use mathlib.Core.List.{List, [], _∷_, _++_}
 use lib.Dec.{leb}
 use lib.IntN.{ℤ}
-use lib.ListN.{length, getD, set, replicate, length-append, length-set}
+use lib.ListN.{length, getD, set, replicate, length-append}
 use lib.Seq.{take-length, take-append-seam}
-use borrow.Author.Tests.{eqb-false, leb-false, ltb-false}
+use borrow.Author.Tests.{leb-false, ltb-false}
 use Rattle.words.specs.declared.Body.{Body}
 use Rattle.words.specs.declared.Body.the-variants.{Query, Response, Update, Ack}
 use Rattle.words.specs.declared.Message.{Message}
@@ -32,10 +32,11 @@ use Rattle.tables.specs.TableLaws.{seek-at}
 use Rattle.state.specs.declared.Event.{Event}
 use Rattle.state.specs.declared.Event.the-variants.{Read, Write, Deliver, Crash, Lose}
 use Rattle.state.specs.State.{State, freshReplica, replicaOf, laidMessages, laidRows}
-use Rattle.state.specs.State as S
 use Rattle.state.specs.Step.{outcome, check, full, noRoom, invokeRefusal, deliverRefusal, crashRefusal, readRow, writeRow, completed, moved, answeredRows, withoutMessage, askedRegister, receivedBy, received}
 use Rattle.state.specs.Step.{step, stepRead, stepWrite, stepDeliver, stepCrash, stepLose, deliverAt, loseAt}
 use Rattle.state.specs.Tabled.{benchOf}
+use Rattle.state.specs.Accepted.{passed}
+use Rattle.state.specs.Sized.{answered-length}
 use Rattle.decide.specs.Plan.{refusedPlan, acceptedPlan, settled, numberBy, rowBy, askedOf, answerBy, answerTo, planOf, readPlan, writePlan, deliverPlan, crashPlan, losePlan}
 use Rattle.advance.specs.declared.Known.{Known}
 use Rattle.advance.specs.declared.Tally.{Tally}
@@ -45,20 +46,15 @@ use Rattle.advance.specs.ListLaws.{laid, laid-set, laid-next, getD-laid}
 use Rattle.advance.specs.Parts.{wantedOf, placeOf, processOf, countersOf, writtenAt, whoseOf, askedOf as askedFor, askedIn, knownOf, workBy, workOf, wholeWork}
 use Rattle.advance.specs.Steps.{Done, by-number, refusal-done, kept-done, taken-done, lost-done, written, past-rows, Mild}
 
--- a check that comes to 0 did not hold, and neither did a later one
-passes : (c : Bool) (k later : ℕ) → (k ≡ 0 → ⊥) → check c k later ≡ 0 → (c ≡ false) × (later ≡ 0)
-passes true k later n e = absurd (n e)
-passes false k later n e = (refl, e)
-
 invoke-room : (s : State) (p x later : ℕ) → invokeRefusal s p x later ≡ 0 → (length (s .rows) < 1024) × (length (s .flight) + s .n ≤ 512)
 invoke-room s p x later e =
-    let (a, e₁) = passes (full s) 17 _ (eqb-false 17 0 refl) e in
-    let (b, e₂) = passes (not (within p (s .n))) 8 _ (eqb-false 8 0 refl) e₁ in
-    let (c, e₃) = passes (not (within x (s .m))) 9 _ (eqb-false 9 0 refl) e₂ in
-    let (d, e₄) = passes (replicaOf s p .crashed) 10 _ (eqb-false 10 0 refl) e₃ in
-    let (f, e₅) = passes (not (isIdle (replicaOf s p .phase))) 11 _ (eqb-false 11 0 refl) e₄ in
-    let (g, e₆) = passes (leb 1024 (length (s .rows))) 16 _ (eqb-false 16 0 refl) e₅ in
-    let (h, e₇) = passes (noRoom (length (s .flight) + s .n)) 15 later (eqb-false 15 0 refl) e₆ in
+    let (a, e₁) = passed (full s) 17 _ refl e in
+    let (b, e₂) = passed (not (within p (s .n))) 8 _ refl e₁ in
+    let (c, e₃) = passed (not (within x (s .m))) 9 _ refl e₂ in
+    let (d, e₄) = passed (replicaOf s p .crashed) 10 _ refl e₃ in
+    let (f, e₅) = passed (not (isIdle (replicaOf s p .phase))) 11 _ refl e₄ in
+    let (g, e₆) = passed (leb 1024 (length (s .rows))) 16 _ refl e₅ in
+    let (h, e₇) = passed (noRoom (length (s .flight) + s .n)) 15 later refl e₆ in
     (leb-false 1024 (length (s .rows)) g, ltb-false 512 (length (s .flight) + s .n) h)
 
 -- the next row is written behind the rows
@@ -86,7 +82,7 @@ getD-again (x ∷ xs) (suc i) d = getD-again xs i d
 -- ---- the rows that an answer leaves
 
 rows-done : (s : State) → Good s → (ended : Ended) (phase : Phase) → Waited ended phase → Points (s .rows) phase
-    → set (laidRows s) (writtenAt (numberBy ended (pointed phase))) (rowBy ended (getD (s .rows) (pointed phase - 1) emptyRow)) ≡ laid 1024 emptyRow (answeredRows (s .rows) (S.pointed phase) ended)
+    → set (laidRows s) (writtenAt (numberBy ended (pointed phase))) (rowBy ended (getD (s .rows) (pointed phase - 1) emptyRow)) ≡ laid 1024 emptyRow (answeredRows (s .rows) (pointed phase) ended)
 rows-done s g Pending phase w points = past-rows s g emptyRow
 rows-done s g (At time pair) Idle w points = absurd w
 rows-done s g (At time pair) (Querying number best) w points =
@@ -95,10 +91,6 @@ rows-done s g (At time pair) (Querying number best) w points =
 rows-done s g (At time pair) (Updating number sent) w points =
     ap (λ (i : ℕ). set (laidRows s) i (completed (getD (s .rows) (number - 1) emptyRow) time pair)) (written number (points .0))
     ∙ laid-set 1024 emptyRow (s .rows) (number - 1) (completed (getD (s .rows) (number - 1) emptyRow) time pair) (omega (arith, points .0, points .1))
-
-rows-count : (rows : List Row) (number : ℕ) (ended : Ended) → length (answeredRows rows number ended) ≡ length rows
-rows-count rows number Pending = refl
-rows-count rows number (At time pair) = length-set rows (number - 1) (completed (getD rows (number - 1) emptyRow) time pair)
 
 -- ---- what a recipient answers, by the row that was gathered
 
@@ -165,22 +157,22 @@ module _ (s : State) (g : Good s) where
 
   deliver-room : (r : Replica) (answer : Answer) → check (full s) 17 (deliverRefusal s r answer) ≡ 0 → length (s .flight) - 1 + sentBy (s .n) (answer .sends) ≤ 512
   deliver-room r answer e =
-      let (a, e₁) = passes (full s) 17 (deliverRefusal s r answer) (eqb-false 17 0 refl) e in
-      let (b, e₂) = passes (r .crashed) 13 _ (eqb-false 13 0 refl) e₁ in
-      let (c, e₃) = passes (noRoom (length (s .flight) - 1 + sentBy (s .n) (answer .sends))) 15 (answer .refusal) (eqb-false 15 0 refl) e₂ in
+      let (a, e₁) = passed (full s) 17 (deliverRefusal s r answer) refl e in
+      let (b, e₂) = passed (r .crashed) 13 _ refl e₁ in
+      let (c, e₃) = passed (noRoom (length (s .flight) - 1 + sentBy (s .n) (answer .sends))) 15 (answer .refusal) refl e₂ in
       ltb-false 512 (length (s .flight) - 1 + sentBy (s .n) (answer .sends)) c
 
   receive-done : (p i : ℕ) → i < length (s .flight) → (r : Replica) (answer : Answer) → Mild (answer .sends) → Waited (answer .ended) (r .phase) → Points (s .rows) (r .phase)
       → Done (workBy (benchOf s) (record { rows = 0; delivered = 1; lost = 0; takes = true }) p i
       (settled (check (full s) 17 (deliverRefusal s r answer)) r (acceptedPlan (countersOf (benchOf s)) p answer (numberBy (answer .ended) (pointed (r .phase))) (rowBy (answer .ended) (getD (s .rows) (pointed (r .phase) - 1) emptyRow)))))
-      s (cond (full s) (outcome s 17 s) (outcome s (deliverRefusal s r answer) (moved s p answer (removed i (s .flight)) (s .delivered + 1) (answeredRows (s .rows) (S.pointed (r .phase)) (answer .ended)))))
+      s (cond (full s) (outcome s 17 s) (outcome s (deliverRefusal s r answer) (moved s p answer (removed i (s .flight)) (s .delivered + 1) (answeredRows (s .rows) (pointed (r .phase)) (answer .ended)))))
   receive-done p i l r answer mild waited points =
-      subst (Done _ s) (sym (full-first s (full s) (deliverRefusal s r answer) (moved s p answer (removed i (s .flight)) (s .delivered + 1) (answeredRows (s .rows) (S.pointed (r .phase)) (answer .ended)))))
+      subst (Done _ s) (sym (full-first s (full s) (deliverRefusal s r answer) (moved s p answer (removed i (s .flight)) (s .delivered + 1) (answeredRows (s .rows) (pointed (r .phase)) (answer .ended)))))
       (by-number s g (record { rows = 0; delivered = 1; lost = 0; takes = true }) p i (check (full s) 17 (deliverRefusal s r answer)) r
       (acceptedPlan (countersOf (benchOf s)) p answer (numberBy (answer .ended) (pointed (r .phase))) (rowBy (answer .ended) (getD (s .rows) (pointed (r .phase) - 1) emptyRow)))
-      (moved s p answer (removed i (s .flight)) (s .delivered + 1) (answeredRows (s .rows) (S.pointed (r .phase)) (answer .ended)))
-      (λ z. taken-done s g p i l answer (numberBy (answer .ended) (pointed (r .phase))) (rowBy (answer .ended) (getD (s .rows) (pointed (r .phase) - 1) emptyRow)) (answeredRows (s .rows) (S.pointed (r .phase)) (answer .ended))
-      mild (deliver-room r answer z) (rows-done s g (answer .ended) (r .phase) waited points) (rows-count (s .rows) (S.pointed (r .phase)) (answer .ended))))
+      (moved s p answer (removed i (s .flight)) (s .delivered + 1) (answeredRows (s .rows) (pointed (r .phase)) (answer .ended)))
+      (λ z. taken-done s g p i l answer (numberBy (answer .ended) (pointed (r .phase))) (rowBy (answer .ended) (getD (s .rows) (pointed (r .phase) - 1) emptyRow)) (answeredRows (s .rows) (pointed (r .phase)) (answer .ended))
+      mild (deliver-room r answer z) (rows-done s g (answer .ended) (r .phase) waited points) (answered-length (s .rows) (pointed (r .phase)) (answer .ended))))
 
   deliver-done : (k : ℕ) (f : Found) → f ≡ seek k 0 (s .flight) → Done (workOf (benchOf s) (Deliver k) (gathered s (Deliver k) f)) s (cond (full s) (outcome s 17 s) (deliverAt s f))
   unfolding workOf whoseOf planOf deliverPlan
@@ -190,7 +182,7 @@ module _ (s : State) (g : Good s) where
       let r : Replica = replicaOf s (m .to .0) in
       let l : i < length (s .flight) = found-within k i e in
       let asked : ℕ = askedOf (r .phase) (getD (s .rows) (pointed (r .phase) - 1) emptyRow) in
-      subst (λ (a : Answer). Done (workOf (benchOf s) (Deliver k) (gathered s (Deliver k) (Place i))) s (cond (full s) (outcome s 17 s) (outcome s (deliverRefusal s r a) (moved s (m .to .0) a (removed i (s .flight)) (s .delivered + 1) (answeredRows (s .rows) (S.pointed (r .phase)) (a .ended))))))
+      subst (λ (a : Answer). Done (workOf (benchOf s) (Deliver k) (gathered s (Deliver k) (Place i))) s (cond (full s) (outcome s 17 s) (outcome s (deliverRefusal s r a) (moved s (m .to .0) a (removed i (s .flight)) (s .delivered + 1) (answeredRows (s .rows) (pointed (r .phase)) (a .ended))))))
       (answer-is s r m)
       (receive-done (m .to .0) i l r (answerTo (s .n) asked r m) (answer-right (s .n) asked r m (g .sender i l) .0) (answer-right (s .n) asked r m (g .sender i l) .1) (g .points i l))
 

@@ -1,9 +1,9 @@
 -- The work of an event on a state that is laid out in a bench and its two tables is what `step` says: first for a refusal and for each kind of
 -- acceptance, by what the plan says; then event by event.
-use Prim.Native.Nat.{ℕ, zero, suc, _+_, _-_, _<_, _≤_}
+use Prim.Native.Nat.{ℕ, _+_, _-_, _<_, _≤_}
 use native.Mathlib.Omega.{arith}
 use mathlib.Core.Path.{_≡_, refl, sym, ap, subst, _∙_}
-use mathlib.Core.Bool.{Bool, true, false, cond, _&&_, false≢true}
+use mathlib.Core.Bool.{Bool, true, false, cond, false≢true, and-false}
 use mathlib.Core.List.{List, [], _++_, append-nil}
 use lib.Dec.{eqb}
 use lib.ListN.{length, getD, set, replicate, length-append, length-replicate}
@@ -22,12 +22,13 @@ use Rattle.state.specs.declared.Bench.{Bench}
 use Rattle.state.specs.State.{State, laidMessages, laidRows}
 use Rattle.state.specs.Step.{Outcome, outcome, posted, moved, withoutMessage}
 use Rattle.state.specs.Tabled.{benchOf}
+use Rattle.state.specs.KeepsMoved.{posted-length}
 use Rattle.decide.specs.declared.Plan.{Plan}
 use Rattle.decide.specs.Plan.{firstOf, refusedPlan, acceptedPlan, settled}
 use Rattle.advance.specs.declared.Tally.{Tally}
 use Rattle.advance.specs.declared.Work.{Work}
 use Rattle.advance.specs.Good.{Good}
-use Rattle.advance.specs.ListLaws.{laid, laid-more, laid-less, length-removed}
+use Rattle.advance.specs.ListLaws.{laid, laid-more, laid-less, length-less}
 use Rattle.advance.specs.Parts.{Sound, countersOf, writtenAt, workBy, droppedIf, carriedMessages, carriedRows}
 
 -- the work, carried out, gives this outcome; and it can be carried out
@@ -39,10 +40,6 @@ pub record Done (k : Work) (s : State) (o : Outcome) : Type 0 where
   pub sound : Sound k 512
 
 -- ---- small facts
-
-and-false : (a : Bool) → (a && false) ≡ false
-and-false true = refl
-and-false false = refl
 
 pub past-rows : (s : State) → Good s → (row : Row) → set (laidRows s) 1024 row ≡ laidRows s
 past-rows s g row = set-out (laidRows s) 1024 row (omega (arith, length-append (s .rows) (replicate (1024 - length (s .rows)) emptyRow), length-replicate (1024 - length (s .rows)) emptyRow, g .rows))
@@ -60,13 +57,6 @@ posted-is : (s : State) (p : ℕ) (sends : Sends) → copies (firstOf (s .sent +
 posted-is s p Nothing = refl
 posted-is s p (Reply to letter) = refl
 posted-is s p (Broadcast letter) = refl
-
-copies-length : (m : Message) (n : ℕ) → length (copies m n) ≡ n
-copies-length m zero = refl
-copies-length m (suc n) = ap suc (copies-length _ n)
-
-posted-length : (s : State) (p : ℕ) (sends : Sends) → length (posted s p sends) ≡ sentBy (s .n) sends
-posted-length s p sends = ap length (sym (posted-is s p sends)) ∙ copies-length (firstOf (s .sent + 1) p sends) (sentBy (s .n) sends)
 
 number-small : (s : State) → Good s → (p : ℕ) (sends : Sends) → firstOf (s .sent + 1) p sends .number + sentBy (s .n) sends < 4294967296
 number-small s g p Nothing = omega arith
@@ -184,7 +174,7 @@ off-is : (s : State) → Good s → (i : ℕ) → i < length (s .flight) → (ys
     → laidAt (length (s .flight) - 1) ys (droppedIf true i (length (s .flight)) (laidMessages s)) ≡ laid 512 emptyMessage (removed i (s .flight) ++ ys)
 off-is s g i l ys =
     ap (λ (xs : List Message). laidAt (length (s .flight) - 1) ys xs) (laid-less 512 emptyMessage (s .flight) i l (g .flight))
-    ∙ ap (λ (n : ℕ). laidAt n ys (laid 512 emptyMessage (removed i (s .flight)))) (sym (length-removed i (s .flight) l))
+    ∙ ap (λ (n : ℕ). laidAt n ys (laid 512 emptyMessage (removed i (s .flight)))) (sym (length-less i (s .flight) l))
     ∙ laid-more 512 emptyMessage (removed i (s .flight)) ys
 
 pub taken-done : (s : State) → Good s → (p i : ℕ) → i < length (s .flight) → (answer : Answer) (number : ℕ) (row : Row) (rows : List Row)
@@ -199,7 +189,7 @@ taken-done s g p i l answer number row rows mild room laid-rows count =
           after-is s (s .sent + sentBy (s .n) (answer .sends)) (s .sent + sentBy (s .n) (answer .sends)) (s .delivered + 1) (s .delivered + 1) (s .lost + 0) (s .lost)
           (length (s .flight) - 1 + sentBy (s .n) (answer .sends)) (length (removed i (s .flight) ++ posted s p (answer .sends))) (length (s .rows) + 0) (length rows)
           (set (s .replicas) (p - 1) (answer .replica)) (set (s .replicas) (p - 1) (answer .replica))
-          refl refl (plus-none (s .lost)) (omega (arith, length-append (removed i (s .flight)) (posted s p (answer .sends)), length-removed i (s .flight) l, posted-length s p (answer .sends)))
+          refl refl (plus-none (s .lost)) (omega (arith, length-append (removed i (s .flight)) (posted s p (answer .sends)), length-less i (s .flight) l, posted-length s p (answer .sends)))
           (plus-none (length (s .rows)) ∙ sym count) refl;
       messages =
           ap (λ (ys : List Message). laidAt (length (s .flight) - 1) ys (droppedIf true i (length (s .flight)) (laidMessages s))) (posted-is s p (answer .sends))
@@ -225,7 +215,7 @@ lost-done s g p i r same l =
       bench =
           after-is s (s .sent + 0) (s .sent) (s .delivered + 0) (s .delivered) (s .lost + 1) (s .lost + 1) (length (s .flight) - 1 + 0) (length (removed i (s .flight))) (length (s .rows) + 0) (length (s .rows))
           (set (s .replicas) (p - 1) r) (s .replicas)
-          (plus-none (s .sent)) (plus-none (s .delivered)) refl (omega (arith, length-removed i (s .flight) l)) (plus-none (length (s .rows)))
+          (plus-none (s .sent)) (plus-none (s .delivered)) refl (omega (arith, length-less i (s .flight) l)) (plus-none (length (s .rows)))
           (ap (λ (q : Replica). set (s .replicas) (p - 1) q) same ∙ set-getD (s .replicas) (p - 1) r);
       messages = off-is s g i l [] ∙ ap (laid 512 emptyMessage) (append-nil (removed i (s .flight)));
       rows = past-rows s g emptyRow;

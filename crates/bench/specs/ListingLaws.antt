@@ -1,9 +1,9 @@
 -- What a well-formed bench says of the rows that the order is made of; and that what is laid is what `order` replies.
-use mathlib.Core.Path.{_≡_, refl, sym, ap, _∙_}
+use mathlib.Core.Path.{_≡_, refl, ap, _∙_}
 use Prim.Native.Nat.{ℕ, _-_, _≤_}
 use native.Mathlib.Omega.{arith}
 use borrow.Author.Tests.{eqb-true, leb-true, le-leb}
-use mathlib.Core.Bool.{Bool, true, false, not, cond, _&&_, _||_, Bool·beq}
+use mathlib.Core.Bool.{Bool, true, false, not, _&&_, _||_, Bool·beq}
 use mathlib.Core.List.{List, _++_}
 use lib.Dec.{leb, eqb}
 use lib.ListN.{length, replicate, take, drop}
@@ -21,7 +21,8 @@ use Rattle.order.specs.Operations.{orderOf}
 use Rattle.order.specs.Keys.{rowRanged}
 use Rattle.bench.specs.declared.Ordered.{Ordered}
 use Rattle.bench.specs.Listing.{canList, listedReply, unlisted, laidNumbers, listReply, listLeft}
-use Rattle.bench.specs.TabledUse.{tabled-well}
+use Rattle.bench.specs.ReplyLaws.{pick}
+use Rattle.bench.specs.TabledUse.{well-tabled}
 
 -- ---- a row of a well-formed state is inside the ranges
 
@@ -73,7 +74,7 @@ module _ (b : Bench) (messages : List Message) (rows : List Row) where
 
   pub rows-ranged : tabled b messages rows ≡ true → every rowRanged (take (b .rows) rows) ≡ true
   rows-ranged e =
-      let w : Well (view b messages rows) = tabled-well b messages rows e in
+      let w : Well (view b messages rows) = well-tabled b messages rows e in
       every-mono (rowFits (view b messages rows)) rowRanged (row-in-range (view b messages rows) w) (take (b .rows) rows) (w .history)
 
 -- ---- the reply
@@ -81,9 +82,6 @@ module _ (b : Bench) (messages : List Message) (rows : List Row) where
 pub record Listed (b : Bench) (messages : List Message) (rows : List Row) (out : List ℕ) (r : Ordered) (out′ : List ℕ) : Type 0 where
   pub reply : r ≡ listReply b messages rows out
   pub left : out′ ≡ listLeft b messages rows out
-
-pick : {A : Type 0} (t u : Bool) (x y z : A) → t ≡ u → z ≡ cond u x y → z ≡ cond t x y
-pick t u x y z e f = f ∙ ap (λ (v : Bool). cond v x y) (sym e)
 
 module _ (b : Bench) (messages : List Message) (rows : List Row) (out : List ℕ) where
   abbrev order : List ℕ

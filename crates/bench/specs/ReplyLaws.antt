@@ -26,7 +26,8 @@ stepped refusal bench = record { refusal = refusal; bench = bench }
 same : (r : Stepped) (refusal : ℕ) (bench : Bench) → r .refusal ≡ refusal → r .bench ≡ bench → r ≡ stepped refusal bench
 same r refusal bench e f = ap (λ (k : ℕ). stepped k (r .bench)) e ∙ ap (stepped refusal) f
 
-pick : {A : Type 0} (t u : Bool) (x y z : A) → t ≡ u → z ≡ cond u x y → z ≡ cond t x y
+-- what a test picks, by what the test came to
+pub pick : {A : Type 0} (t u : Bool) (x y z : A) → t ≡ u → z ≡ cond u x y → z ≡ cond t x y
 pick t u x y z e f = f ∙ ap (λ (v : Bool). cond v x y) (sym e)
 
 module _ (b : Bench) (event : Event) (messages : List Message) (rows : List Row) where

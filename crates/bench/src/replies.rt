@@ -26,6 +26,18 @@ use words::ranges::PROCESSES;
 use words::ranges::REGISTERS;
 use words::ranges::is_within;
 
+// Places of the two lent tables, and of the table of row numbers.
+const MESSAGES: usize = 512;
+
+const ROWS: usize = 1024;
+
+// Document 01's numbers of refusal.
+const NO_PROCESSES: u8 = 4;
+
+const NO_REGISTERS: u8 = 5;
+
+const NOT_FORMED: u8 = 18;
+
 // A bench that was just started; of 0 processes and 0 registers it is none.
 pub fn fresh_bench(n: u8, m: u8) -> Bench
     ensures { λ r. ⌜ r ≡ benchOf (fresh n m) ⌝ }
@@ -62,14 +74,18 @@ pub fn fresh_bench(n: u8, m: u8) -> Bench
 fn start_refusal(n: u8, m: u8, messages: usize, rows: usize) -> u8
     ensures { λ r. ⌜ r ≡ startRefusal n m messages rows ⌝ }
 {
-    if (messages == 512) & (rows == 1024) {
+    if (messages == MESSAGES) & (rows == ROWS) {
         if is_within(n, PROCESSES) {
-            if is_within(m, REGISTERS) { 0 } else { 5 }
+            if is_within(m, REGISTERS) {
+                0
+            } else {
+                NO_REGISTERS
+            }
         } else {
-            4
+            NO_PROCESSES
         }
     } else {
-        18
+        NOT_FORMED
     }
 }
 
@@ -103,7 +119,7 @@ pub fn standings_if(b: Bench, ok: bool) -> Statuses
     if ok {
         return standings_of(b);
     }
-    all_down(18)
+    all_down(NOT_FORMED)
 }
 
 // The bench as it was, and 18.
@@ -111,7 +127,7 @@ pub fn refused(b: Bench) -> Stepped
     ensures { λ r. ⌜ r ≡ unformed b ⌝ }
 {
     Stepped {
-        refusal: 18,
+        refusal: NOT_FORMED,
         bench: b,
     }
 }
@@ -120,7 +136,7 @@ pub fn refused(b: Bench) -> Stepped
 pub fn can_list(formed: bool, places: usize) -> bool
     ensures { λ r. ⌜ r ≡ canList formed places ⌝ }
 {
-    formed & (places == 1024)
+    formed & (places == ROWS)
 }
 
 pub fn listing(count: u16) -> Ordered
@@ -136,7 +152,7 @@ pub fn no_listing() -> Ordered
     ensures { λ r. ⌜ r ≡ unlisted ⌝ }
 {
     Ordered {
-        refusal: 18,
+        refusal: NOT_FORMED,
         count: 0,
     }
 }

@@ -1,14 +1,14 @@
 -- Every accepted event is a move: of a state with its seven replicas, whose messages in flight go to processes 1 to 7.
 use Prim.Native.Nat.{ℕ, zero, suc, _+_, _-_, _≤_, _<_}
-use mathlib.Core.Path.{_≡_, refl, sym, ap, subst, _∙_}
+use mathlib.Core.Path.{_≡_, refl, sym, ap, subst}
 use mathlib.Core.Bool.{Bool, true, false, not, cond, true≢false}
 use mathlib.Core.List.{List, [], _∷_, List·Memᴰ, List·Memᴰ·head, List·Memᴰ·tail, List·Memᴰ·not-nil, List·Memᴰ·append-cases}
 use mathlib.Core.Logic.{inl, inr}
 use native.Mathlib.Omega.{arith}
 use lib.Dec.{eqb, leb}
 use lib.ListN.{length, getD, length-set}
-use lib.Seq.{getD-set-same, getD-set-other, take-length}
-use borrow.Author.Tests.{eqb-false, eqb-true, leb-true, not-false}
+use lib.Seq.{getD-set-same, getD-set-other}
+use borrow.Author.Tests.{eqb-true, leb-true, not-false}
 use Rattle.words.specs.declared.Body.{Body}
 use Rattle.words.specs.declared.Body.the-variants.{Query, Response, Update, Ack}
 use Rattle.words.specs.declared.Message.{Message}
@@ -27,25 +27,22 @@ use Rattle.replica.specs.declared.Sends.{Sends}
 use Rattle.replica.specs.declared.Sends.the-variants.{Nothing, Reply, Broadcast}
 use Rattle.replica.specs.Handlers.{accepted, discarded, broadcastOf, isIdle, readRule, writeRule, queryRule, updateRule, crashRule}
 use Rattle.replica.specs.Handlers.{responseCounts, responseRule, responseTaken, responseCounted, ackCounts, ackRule, ackTaken, ackCounted}
+use Rattle.replica.specs.Numbers.{pointed}
 use Rattle.tables.specs.declared.Row.{Row}
-use Rattle.tables.specs.declared.Found.the-variants.{At as Place}
-use Rattle.tables.specs.Tables.{emptyMessage, seek, removed, copies, following}
-use Rattle.tables.specs.TableLaws.{seek-at}
+use Rattle.tables.specs.Tables.{emptyMessage, removed, copies, following}
 use Rattle.state.specs.declared.Event.{Event}
-use Rattle.state.specs.State.{State, replicaOf, rowOf, pointed}
-use Rattle.state.specs.Step.{step, stepRead, stepWrite, stepCrash, check, full, invokeRefusal, crashRefusal}
+use Rattle.state.specs.State.{State, replicaOf, rowOf}
+use Rattle.state.specs.Step.{step, stepRead, stepWrite, stepCrash, full, invokeRefusal, crashRefusal}
 use Rattle.state.specs.Step.{moved, posted, answeredRows, askedRegister}
 use Rattle.state.specs.Follows.{Follows, ruleBy, messageAt, recipientOf, receiverOf, afterDeliver, readOf, writeOf, crashOf}
 use Rattle.state.specs.Follows.Follows.{reads as readsBy, writes as writesBy, delivers, crashes, loses}
 use Rattle.state.specs.FollowsLaws.{accepted-follows}
+use Rattle.state.specs.Accepted.{passed}
+use Rattle.state.specs.CountingLaws.{seek-within}
 use Rattle.consistency.specs.Moves.{Sent, Turn, Ready, Move, Responds, Acks, reached, clockThen, repliersThen, counting, ending}
 use Rattle.consistency.specs.Moves.Move.{rests, reads, writes, responds, stores, counts, chooses, gathers, completes}
 
 -- ---- the guards of an invocation
-
-not-held : (holds : Bool) (number later : ℕ) → eqb number 0 ≡ false → check holds number later ≡ 0 → (holds ≡ false) × (later ≡ 0)
-not-held true number later e z = absurd (eqb-false number 0 e z)
-not-held false number later e z = (refl, z)
 
 is-idle : (phase : Phase) → not (isIdle phase) ≡ false → phase ≡ Idle
 is-idle Idle e = refl
@@ -54,11 +51,11 @@ is-idle (Updating row sent) e = absurd (true≢false e)
 
 invoke-ready : (s : State) (p x later : ℕ) → invokeRefusal s p x later ≡ 0 → Ready s p x
 invoke-ready s p x later z =
-    let a = not-held (full s) 17 _ refl z in
-    let b = not-held (not (within p (s .n))) 8 _ refl (a .1) in
-    let c = not-held (not (within x (s .m))) 9 _ refl (b .1) in
-    let d = not-held (replicaOf s p .crashed) 10 _ refl (c .1) in
-    let e = not-held (not (isIdle (replicaOf s p .phase))) 11 _ refl (d .1) in
+    let a = passed (full s) 17 _ refl z in
+    let b = passed (not (within p (s .n))) 8 _ refl (a .1) in
+    let c = passed (not (within x (s .m))) 9 _ refl (b .1) in
+    let d = passed (replicaOf s p .crashed) 10 _ refl (c .1) in
+    let e = passed (not (isIdle (replicaOf s p .phase))) 11 _ refl (d .1) in
     record {
       least = within-least p (s .n) (not-false _ (b .0));
       most = within-most p (s .n) (not-false _ (b .0));
@@ -68,7 +65,7 @@ invoke-ready s p x later z =
     }
 
 crash-within : (s : State) (p later : ℕ) → crashRefusal s p later ≡ 0 → within p (s .n) ≡ true
-crash-within s p later z = not-false _ (not-held (not (within p (s .n))) 8 _ refl (not-held (full s) 17 _ refl z .1) .0)
+crash-within s p later z = not-false _ (passed (not (within p (s .n))) 8 _ refl (passed (full s) 17 _ refl z .1) .0)
 
 -- ---- the messages of a turn
 
@@ -238,9 +235,6 @@ module _ (s : State) (seven : length (s .replicas) ≡ 7) where
     delivery-moves Ack e = ack-moves e
 
 -- ---- every accepted event
-
-seek-within : (k i : ℕ) (xs : List Message) → seek k 0 xs ≡ Place i → i < length xs
-seek-within k i xs e = seek-at k (length xs) i xs (sym (ap (seek k 0) (take-length xs) ∙ e)) .0
 
 module _ (s : State) (seven : length (s .replicas) ≡ 7) (few : s .n ≤ 7)
     (to : (message : Message) → List·Memᴰ message (s .flight) → (1 ≤ message .to .0) × (message .to .0 ≤ 7)) where

@@ -16,10 +16,11 @@ use Rattle.words.specs.QuorumLaws.{Inside}
 use Rattle.words.specs.Stamps.{stampOf, startPair}
 use Rattle.words.specs.StampLaws.{AtMost}
 use Rattle.replica.specs.declared.Phase.the-variants.{Idle, Querying, Updating}
+use Rattle.replica.specs.Numbers.{pointed}
 use Rattle.tables.specs.declared.Kind.the-variants.{Read, Write}
 use Rattle.tables.specs.declared.Row.{Row}
 use Rattle.tables.specs.Tables.{emptyRow}
-use Rattle.state.specs.State.{State, replicaOf, rowOf, pointed}
+use Rattle.state.specs.State.{State, replicaOf, rowOf}
 use Rattle.sc_abd.specs.RequestNumbers.{isReply}
 use Rattle.consistency.specs.Held.{Held, Recalls, clockAt}
 

@@ -1,10 +1,10 @@
 -- Every state that accepted events give from a fresh start is sound, beside what its processes held.
-use Prim.Native.Nat.{ℕ, zero, suc, _-_, _≤_}
+use Prim.Native.Nat.{ℕ, _-_, _≤_}
 use mathlib.Core.Path.{_≡_, refl, sym, ap, subst, _∙_}
 use mathlib.Core.List.{List, [], _∷_, List·Memᴰ, List·Memᴰ·head, List·Memᴰ·tail, List·Memᴰ·not-nil}
 use mathlib.Core.Logic.{inl}
 use native.Mathlib.Omega.{arith}
-use lib.ListN.{length, getD, replicate}
+use lib.ListN.{length, getD}
 use Rattle.words.specs.declared.Message.{Message}
 use Rattle.words.specs.declared.Pair.{Pair}
 use Rattle.words.specs.RangeLaws.{within-most}
@@ -16,10 +16,12 @@ use Rattle.state.specs.State.{State, freshReplica, fresh, replicaOf}
 use Rattle.state.specs.Step.{step}
 use Rattle.state.specs.Reached.{Reached}
 use Rattle.state.specs.Reached.Reached.{start, next}
+use Rattle.state.specs.EveryLaws.{getD-empty}
 use Rattle.consistency.specs.Held.{Held, heldIn, heldAfter}
 use Rattle.consistency.specs.Moves.{Move}
 use Rattle.consistency.specs.MoveLaws.{moves}
 use Rattle.sc_abd.specs.Lists.{All}
+use Rattle.sc_abd.specs.Places.{fresh-replica}
 use Rattle.sc_abd.specs.RequestNumbers.{Numbered, Timely, asker}
 use Rattle.sc_abd.specs.RequestNumbersReached.{reached-numbered}
 use Rattle.consistency.specs.Sound.{Sound, Begun}
@@ -32,17 +34,9 @@ use Rattle.consistency.specs.TurnsKept.{move-turns}
 
 -- ---- a fresh start
 
-replicate-at : {A : Type 0} (n i : ℕ) (a : A) → getD (replicate n a) i a ≡ a
-replicate-at zero i a = refl
-replicate-at (suc n) zero a = refl
-replicate-at (suc n) (suc i) a = replicate-at n i a
-
 module _ (n m : ℕ) where
-  fresh-replica : (q : ℕ) → replicaOf (fresh n m) q ≡ freshReplica
-  fresh-replica q = replicate-at 7 (q - 1) freshReplica
-
   fresh-pair : (q j : ℕ) → getD (replicaOf (fresh n m) q .pairs) j startPair ≡ startPair
-  fresh-pair q j = ap (λ (r : Replica). getD (r .pairs) j startPair) (fresh-replica q) ∙ replicate-at 16 j startPair
+  fresh-pair q j = ap (λ (r : Replica). getD (r .pairs) j startPair) (fresh-replica n m q) ∙ getD-empty 16 j startPair
 
   fresh-sound : n ≤ 7 → m ≤ 16 → Sound (fresh n m) (λ k time x. startStamp)
   fresh-sound few registers =
@@ -53,11 +47,11 @@ module _ (n m : ℕ) where
           rising = λ k x a b first l. atMost-reflexive startStamp;
         };
         stores = λ q first. record {
-          sixteen = ap (λ (r : Replica). length (r .pairs)) (fresh-replica q);
+          sixteen = ap (λ (r : Replica). length (r .pairs)) (fresh-replica n m q);
           early = λ j. omega (arith, ap (λ (p : Pair). p .stamp .time .0) (fresh-pair q j));
           source = λ j. inl (fresh-pair q j);
         };
-        waits = λ q first. now-idle (fresh n m) (λ k time x. startStamp) q freshReplica (fresh-replica q) (inside-empty n) refl refl;
+        waits = λ q first. now-idle (fresh n m) (λ k time x. startStamp) q freshReplica (fresh-replica n m q) (inside-empty n) refl refl;
         flight = λ message f. absurd (List·Memᴰ·not-nil f);
         begun = λ message f. absurd (List·Memᴰ·not-nil f);
         rows = λ j l. absurd (omega arith);

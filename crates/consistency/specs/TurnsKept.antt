@@ -12,9 +12,10 @@ use Rattle.words.specs.declared.Pair.{Pair}
 use Rattle.replica.specs.declared.Phase.the-variants.{Idle}
 use Rattle.replica.specs.declared.Replica.{Replica}
 use Rattle.replica.specs.declared.Sends.{Sends}
+use Rattle.replica.specs.Numbers.{pointed}
 use Rattle.tables.specs.declared.Row.{Row}
 use Rattle.tables.specs.Tables.{emptyRow}
-use Rattle.state.specs.State.{State, replicaOf, rowOf, pointed}
+use Rattle.state.specs.State.{State, replicaOf, rowOf}
 use Rattle.state.specs.Step.{completed}
 use Rattle.consistency.specs.Held.{Held, clockAt}
 use Rattle.consistency.specs.Moves.{Turn, own-phase, Move, Acks, clockThen}

@@ -4,13 +4,33 @@ ghost use Rattle.decide.specs.Checks.{full, invokeChecks, deliverChecks,
 ghost use Rattle.state.specs.Step.{check, noRoom};
 ghost use Prim.Native.Nat.{_-_};
 use crate::Counters;
+use words::ranges::EVENTS;
+use words::ranges::ROWS;
 use words::ranges::is_within;
 
-const EVENTS: u16 = 12000;
-
+// Places for messages in flight.
 const ROOM: u32 = 512;
 
-const ROWS: u16 = 1024;
+// Document 01's numbers of refusal.
+const NO_PROCESS: u8 = 8;
+
+const NO_REGISTER: u8 = 9;
+
+const CRASHED: u8 = 10;
+
+const PENDING: u8 = 11;
+
+const NO_MESSAGE: u8 = 12;
+
+const RECIPIENT_CRASHED: u8 = 13;
+
+const BOTH_UP: u8 = 14;
+
+const NO_ROOM: u8 = 15;
+
+const NO_ROW: u8 = 16;
+
+const FULL: u8 = 17;
 
 pub fn first(holds: bool, number: u8, later: u8) -> u8
     ensures { λ r. ⌜ r ≡ check holds number later ⌝ }
@@ -33,22 +53,22 @@ fn no_room(flight: u32) -> bool
 pub fn invoke_checks(c: Counters, p: u8, x: u8, crashed: bool, idle: bool, later: u8) -> u8
     ensures { λ r. ⌜ r ≡ invokeChecks c p x crashed idle later ⌝ }
 {
-    let room = first(no_room(c.flight as u32 + c.n as u32), 15, later);
-    let row = first(ROWS <= c.rows, 16, room);
-    let pending = first(!idle, 11, row);
-    let down = first(crashed, 10, pending);
-    let register = first(!is_within(x, c.m), 9, down);
-    let process = first(!is_within(p, c.n), 8, register);
-    first(is_full(c), 17, process)
+    let room = first(no_room(c.flight as u32 + c.n as u32), NO_ROOM, later);
+    let row = first(ROWS <= c.rows, NO_ROW, room);
+    let pending = first(!idle, PENDING, row);
+    let down = first(crashed, CRASHED, pending);
+    let register = first(!is_within(x, c.m), NO_REGISTER, down);
+    let process = first(!is_within(p, c.n), NO_PROCESS, register);
+    first(is_full(c), FULL, process)
 }
 
 pub fn deliver_checks(c: Counters, crashed: bool, count: u8, later: u8) -> u8
     ensures { λ r. ⌜ r ≡ deliverChecks c crashed count later ⌝ }
 {
     let left = before(c.flight);
-    let room = first(no_room(left as u32 + count as u32), 15, later);
-    let down = first(crashed, 13, room);
-    first(is_full(c), 17, down)
+    let room = first(no_room(left as u32 + count as u32), NO_ROOM, later);
+    let down = first(crashed, RECIPIENT_CRASHED, room);
+    first(is_full(c), FULL, down)
 }
 
 // One less, and 0 of 0.
@@ -61,21 +81,21 @@ fn before(x: u16) -> u16
 pub fn crash_checks(c: Counters, p: u8, crashed: bool, later: u8) -> u8
     ensures { λ r. ⌜ r ≡ crashChecks c p crashed later ⌝ }
 {
-    let down = first(crashed, 10, later);
-    let process = first(!is_within(p, c.n), 8, down);
-    first(is_full(c), 17, process)
+    let down = first(crashed, CRASHED, later);
+    let process = first(!is_within(p, c.n), NO_PROCESS, down);
+    first(is_full(c), FULL, process)
 }
 
 pub fn lose_checks(c: Counters, down: bool) -> u8
     ensures { λ r. ⌜ r ≡ loseChecks c down ⌝ }
 {
-    let alive = first(!down, 14, 0);
-    first(is_full(c), 17, alive)
+    let alive = first(!down, BOTH_UP, 0);
+    first(is_full(c), FULL, alive)
 }
 
 // There is no such message in flight.
 pub fn missing_checks(c: Counters) -> u8
     ensures { λ r. ⌜ r ≡ missingChecks c ⌝ }
 {
-    first(is_full(c), 17, 12)
+    first(is_full(c), FULL, NO_MESSAGE)
 }

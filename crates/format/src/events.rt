@@ -9,66 +9,88 @@ use crate::numbers;
 use state::Event;
 use words::Pid;
 
+// Document 01's numbers of refusal.
+const UNKNOWN: u8 = 6;
+
 const CUT: u8 = 7;
 
-const UNKNOWN: u8 = 6;
+// The first byte of each event, and how many bytes it has.
+const READ: u8 = 1;
+
+const WRITE: u8 = 2;
+
+const DELIVER: u8 = 3;
+
+const CRASH: u8 = 4;
+
+const LOSE: u8 = 5;
+
+const READ_SIZE: usize = 3;
+
+const WRITE_SIZE: usize = 11;
+
+const DELIVER_SIZE: usize = 5;
+
+const CRASH_SIZE: usize = 2;
+
+const LOSE_SIZE: usize = 5;
 
 fn read_at(bytes: &[u8], at: usize) -> Parse
     requires { ⌜ at < length (now bytes) ⌝ }
     ensures { λ r. ⌜ r ≡ whole (now (bytes .entry)) at 3 (Read (record { 0 = byteAt (now (bytes .entry)) (at + 1) }) (byteAt (now (bytes .entry)) (at + 2))) ⌝ }
 {
-    if bytes.len() - at < 3 {
+    if bytes.len() - at < READ_SIZE {
         return Parse::Refused(CUT);
     }
     let p = Pid(bytes[at + 1]);
     let x = bytes[at + 2];
-    Parse::Next(Event::Read(p, x), at + 3)
+    Parse::Next(Event::Read(p, x), at + READ_SIZE)
 }
 
 fn write_at(bytes: &[u8], at: usize) -> Parse
     requires { ⌜ at < length (now bytes) ⌝ }
     ensures { λ r. ⌜ r ≡ whole (now (bytes .entry)) at 11 (Write (record { 0 = byteAt (now (bytes .entry)) (at + 1) }) (byteAt (now (bytes .entry)) (at + 2)) (valueOf (now (bytes .entry)) (at + 3))) ⌝ }
 {
-    if bytes.len() - at < 11 {
+    if bytes.len() - at < WRITE_SIZE {
         return Parse::Refused(CUT);
     }
     let p = Pid(bytes[at + 1]);
     let x = bytes[at + 2];
     let value = numbers::value_at(bytes, at + 3);
-    Parse::Next(Event::Write(p, x, value), at + 11)
+    Parse::Next(Event::Write(p, x, value), at + WRITE_SIZE)
 }
 
 fn deliver_at(bytes: &[u8], at: usize) -> Parse
     requires { ⌜ at < length (now bytes) ⌝ }
     ensures { λ r. ⌜ r ≡ whole (now (bytes .entry)) at 5 (Deliver (wordAt (now (bytes .entry)) (at + 1))) ⌝ }
 {
-    if bytes.len() - at < 5 {
+    if bytes.len() - at < DELIVER_SIZE {
         return Parse::Refused(CUT);
     }
     let k = numbers::word_at(bytes, at + 1);
-    Parse::Next(Event::Deliver(k), at + 5)
+    Parse::Next(Event::Deliver(k), at + DELIVER_SIZE)
 }
 
 fn crash_at(bytes: &[u8], at: usize) -> Parse
     requires { ⌜ at < length (now bytes) ⌝ }
     ensures { λ r. ⌜ r ≡ whole (now (bytes .entry)) at 2 (Crash (record { 0 = byteAt (now (bytes .entry)) (at + 1) })) ⌝ }
 {
-    if bytes.len() - at < 2 {
+    if bytes.len() - at < CRASH_SIZE {
         return Parse::Refused(CUT);
     }
     let p = Pid(bytes[at + 1]);
-    Parse::Next(Event::Crash(p), at + 2)
+    Parse::Next(Event::Crash(p), at + CRASH_SIZE)
 }
 
 fn lose_at(bytes: &[u8], at: usize) -> Parse
     requires { ⌜ at < length (now bytes) ⌝ }
     ensures { λ r. ⌜ r ≡ whole (now (bytes .entry)) at 5 (Lose (wordAt (now (bytes .entry)) (at + 1))) ⌝ }
 {
-    if bytes.len() - at < 5 {
+    if bytes.len() - at < LOSE_SIZE {
         return Parse::Refused(CUT);
     }
     let k = numbers::word_at(bytes, at + 1);
-    Parse::Next(Event::Lose(k), at + 5)
+    Parse::Next(Event::Lose(k), at + LOSE_SIZE)
 }
 
 pub fn event_at(bytes: &[u8], at: usize) -> Parse
@@ -78,19 +100,19 @@ pub fn event_at(bytes: &[u8], at: usize) -> Parse
         return Parse::End;
     }
     let kind = bytes[at];
-    if kind == 1 {
+    if kind == READ {
         return read_at(bytes, at);
     }
-    if kind == 2 {
+    if kind == WRITE {
         return write_at(bytes, at);
     }
-    if kind == 3 {
+    if kind == DELIVER {
         return deliver_at(bytes, at);
     }
-    if kind == 4 {
+    if kind == CRASH {
         return crash_at(bytes, at);
     }
-    if kind == 5 {
+    if kind == LOSE {
         return lose_at(bytes, at);
     }
     Parse::Refused(UNKNOWN)

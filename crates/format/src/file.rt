@@ -13,6 +13,26 @@ const LONGEST: usize = 65536;
 
 const VERSION: u8 = 1;
 
+// Bytes of the length field, and the places of the bytes behind it.
+const LENGTH_SIZE: usize = 4;
+
+const VERSION_AT: usize = 4;
+
+const N_AT: usize = 5;
+
+const M_AT: usize = 6;
+
+// Document 01's numbers of refusal.
+const WRONG_SIZE: u8 = 1;
+
+const WRONG_LENGTH: u8 = 2;
+
+const WRONG_VERSION: u8 = 3;
+
+const NO_PROCESSES: u8 = 4;
+
+const NO_REGISTERS: u8 = 5;
+
 // The first that holds is given.
 fn first(holds: bool, number: u8, later: u8) -> u8
     ensures { λ r. ⌜ r ≡ cond holds number later ⌝ }
@@ -25,18 +45,22 @@ pub fn file_refusal(bytes: &[u8]) -> u8
 {
     let size = bytes.len();
     if size < SHORTEST {
-        return 1;
+        return WRONG_SIZE;
     }
     if LONGEST < size {
-        return 1;
+        return WRONG_SIZE;
     }
-    let length_wrong = word_at(bytes, 0) as usize != size - 4;
-    let version_wrong = bytes[4] != VERSION;
-    let n_wrong = !is_within(bytes[5], PROCESSES);
-    let m_wrong = !is_within(bytes[6], REGISTERS);
+    let length_wrong = word_at(bytes, 0) as usize != size - LENGTH_SIZE;
+    let version_wrong = bytes[VERSION_AT] != VERSION;
+    let n_wrong = !is_within(bytes[N_AT], PROCESSES);
+    let m_wrong = !is_within(bytes[M_AT], REGISTERS);
     first(
         length_wrong,
-        2,
-        first(version_wrong, 3, first(n_wrong, 4, first(m_wrong, 5, 0))),
+        WRONG_LENGTH,
+        first(
+            version_wrong,
+            WRONG_VERSION,
+            first(n_wrong, NO_PROCESSES, first(m_wrong, NO_REGISTERS, 0)),
+        ),
     )
 }

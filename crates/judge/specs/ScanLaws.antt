@@ -10,6 +10,7 @@ use lib.Seq.{take-nil, drop-nil, getD-set-same, getD-set-other}
 use borrow.Author.Tests.{eqb-true, eqb-false, le-leb, ne-eqb}
 use Rattle.words.specs.declared.Message.{Message}
 use Rattle.words.specs.Ranges.{within}
+use Rattle.words.specs.RangeLaws.{and-left, and-right}
 use Rattle.tables.specs.declared.Row.{Row}
 use Rattle.tables.specs.Tables.{emptyRow}
 use Rattle.state.specs.State.{State}
@@ -19,7 +20,7 @@ use Rattle.judge.specs.declared.Scan.{Scan}
 use Rattle.judge.specs.declared.Waiting.{Waiting}
 use Rattle.judge.specs.declared.RowScan.{RowScan}
 use Rattle.judge.specs.Scans.{scanMessages, noWaiting, noted, isPending, notedIn, scanRows, isOne}
-use Rattle.judge.specs.StepLaws.{and-left, and-right, process-within, message-used, row-used}
+use Rattle.judge.specs.StepLaws.{process-within, message-used, row-used}
 use Rattle.judge.specs.LoopLaws.{and-true}
 
 -- ---- messages

@@ -11,6 +11,7 @@ use lib.Pow.{pow-mono}
 use borrow.Author.Tests.{eq-eqb, ne-eqb, lt-ltb, leb-true, eqb-false, not-true}
 use Rattle.words.specs.declared.Message.{Message}
 use Rattle.words.specs.Ranges.{within}
+use Rattle.words.specs.RangeLaws.{and-left, and-right}
 use Rattle.replica.specs.declared.Replica.{Replica}
 use Rattle.replica.specs.Handlers.{isIdle}
 use Rattle.tables.specs.declared.Row.{Row}
@@ -21,15 +22,6 @@ use Rattle.judge.specs.declared.Scan.{Scan}
 use Rattle.judge.specs.declared.Waiting.{Waiting}
 use Rattle.judge.specs.declared.RowScan.{RowScan}
 use Rattle.judge.specs.Scans.{scanMessage, noWaiting, noted, isPending, notedIn, scanRow, storedFit, isOne}
-
--- both of two tests that held together
-pub and-left : (a b : Bool) → (a && b) ≡ true → a ≡ true
-and-left true b e = refl
-and-left false b e = e
-
-pub and-right : (a b : Bool) → (a && b) ≡ true → b ≡ true
-and-right true b e = e
-and-right false b e = let z : _≡_ {A = ℕ} 0 1 = cc in absurd (omega arith)
 
 -- ---- messages
 

@@ -10,6 +10,11 @@ use words::Message;
 use words::ranges::is_within;
 use words::ranges::pair_fits;
 
+// Places of the table, and the most messages in flight.
+const PLACES: usize = 512;
+
+const ROOM: u16 = 512;
+
 fn body_fits(l: Limits, body: Body) -> bool
     ensures { λ r. ⌜ r ≡ bodyFits (limited l) body ⌝ }
 {
@@ -60,7 +65,7 @@ pub fn start_messages(places: usize, flight: u16) -> Scan
     ensures { λ r. ⌜ r ≡ startMessages places flight ⌝ }
 {
     Scan {
-        ok: (places == 512) & (flight <= 512),
+        ok: (places == PLACES) & (flight <= ROOM),
         last: 0,
         left: flight,
     }

@@ -26,6 +26,7 @@ use state::Bench;
 use words::Pair;
 use words::quorum::majority;
 use words::quorum::size;
+use words::ranges::PROCESSES;
 use words::ranges::pair_fits;
 
 fn is_start(p: Pair) -> bool
@@ -64,7 +65,7 @@ fn stored_fit(l: Limits, m: u8, pairs: [Pair; 16]) -> bool
 fn is_below(repliers: u8, n: u8) -> bool
     ensures { λ r. ⌜ r ≡ ltb repliers (2 ^ (n + 1)) ⌝ }
 {
-    if n < 7 {
+    if n < PROCESSES {
         repliers < (1u8 << (n + 1))
     } else {
         true
@@ -139,7 +140,7 @@ fn replicas_fit(l: Limits, waiting: [Waiting; 7], replicas: [Replica; 7]) -> boo
 {
     let mut ok = true;
     let mut p = 1u8;
-    while p <= 7 {
+    while p <= PROCESSES {
         let at = (p - 1) as usize;
         let w = waiting[at];
         let r = replicas[at];

@@ -11,8 +11,12 @@ use tables::Kind;
 use tables::Row;
 use words::Pair;
 use words::ranges::PROCESSES;
+use words::ranges::ROWS;
 use words::ranges::is_within;
 use words::ranges::pair_fits;
+
+// Places of the history.
+const PLACES: usize = 1024;
 
 fn is_write(kind: Kind) -> bool
     ensures { λ r. ⌜ r ≡ isWrite kind ⌝ }
@@ -116,7 +120,7 @@ pub fn start_rows(places: usize, rows: u16) -> RowScan
         write: false,
     };
     RowScan {
-        ok: (places == 1024) & (rows <= 1024),
+        ok: (places == PLACES) & (rows <= ROWS),
         left: rows,
         waiting: [none; 7],
     }

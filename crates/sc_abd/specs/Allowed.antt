@@ -18,10 +18,10 @@ use Rattle.replica.specs.declared.Counts.the-variants.{Not, For}
 use Rattle.replica.specs.declared.Replica.{Replica}
 use Rattle.replica.specs.Handlers.{isIdle, readRule, writeRule, queryRule, updateRule, crashRule}
 use Rattle.replica.specs.Handlers.{responseCounts, responseTaken, responseRule, ackCounts, ackTaken, ackRule}
-use Rattle.replica.specs.Numbers.{sentBy}
+use Rattle.replica.specs.Numbers.{sentBy, pointed}
 use Rattle.tables.specs.declared.Found.the-variants.{At as Place}
 use Rattle.tables.specs.Tables.{seek, removed}
-use Rattle.state.specs.State.{State, replicaOf, pointed}
+use Rattle.state.specs.State.{State, replicaOf}
 use Rattle.state.specs.Step.{Outcome, outcome, check, full, noRoom, invokeRefusal, deliverRefusal, crashRefusal, loseRefusal, askedRegister}
 use Rattle.state.specs.Step.{moved, withoutMessage, readRow, writeRow, answeredRows, stepRead, stepWrite, stepDeliver, stepCrash, stepLose}
 use Rattle.state.specs.FollowsLaws.{either-way}

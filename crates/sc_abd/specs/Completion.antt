@@ -25,12 +25,13 @@ use Rattle.replica.specs.declared.Phase.{Phase}
 use Rattle.replica.specs.declared.Phase.the-variants.{Idle, Querying, Updating}
 use Rattle.replica.specs.declared.Replica.{Replica}
 use Rattle.replica.specs.Handlers.{queryRule, updateRule, responseCounts, responseTaken, responseRule, ackCounts, ackTaken, ackRule}
+use Rattle.replica.specs.Numbers.{pointed}
 use Rattle.tables.specs.declared.Found.the-variants.{At as Place}
 use Rattle.tables.specs.declared.Row.{Row}
 use Rattle.tables.specs.Tables.{emptyRow, seek}
 use Rattle.state.specs.declared.Event.{Event}
 use Rattle.state.specs.declared.Event.the-variants.{Read, Write, Deliver, Crash, Lose}
-use Rattle.state.specs.State.{State, rowOf, pointed}
+use Rattle.state.specs.State.{State, rowOf}
 use Rattle.state.specs.Step.{answeredRows, askedRegister, completed, step}
 use Rattle.state.specs.FollowsLaws.{either-way}
 use Rattle.state.specs.Accepted.{messageAt, recipientAt, plain, plainBy, deliverNext}

@@ -25,6 +25,7 @@ use Rattle.state.specs.Accepted.{deliver-accepted}
 use Rattle.state.specs.PairLaws.{Within}
 use Rattle.state.specs.WellLaws.{MessageOk, Well, well, message-at}
 use Rattle.state.specs.Counting.{Moment, Run}
+use Rattle.state.specs.CountingLaws.{run-reached}
 use Rattle.state.specs.Keeps.{reached-well-formed}
 use Rattle.sc_abd.specs.Demand2.{ReachedBy}
 use Rattle.sc_abd.specs.RequestNumbers.{Stage, isReply, stageOf, stageFor}
@@ -34,7 +35,7 @@ use Rattle.sc_abd.specs.Numbering.{found-place}
 use Rattle.sc_abd.specs.Completion.{Completes, event-completes}
 use Rattle.sc_abd.specs.Replied.{Replied, longer}
 use Rattle.sc_abd.specs.Replied.Replied.{now, earlier}
-use Rattle.sc_abd.specs.RepliedKept.{run-reached, repliers-replied}
+use Rattle.sc_abd.specs.RepliedKept.{repliers-replied}
 use Rattle.sc_abd.specs.Theorem.{reached-well, step-meets-demand2}
 
 -- ---- a refused event changes nothing

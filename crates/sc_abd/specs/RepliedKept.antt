@@ -34,9 +34,9 @@ use Rattle.state.specs.Accepted.{Invoked, messageAt, recipientAt, plain, plainB
 use Rattle.state.specs.Accepted.{read-accepted, write-accepted, deliver-accepted, crash-accepted, lose-accepted}
 use Rattle.state.specs.Counting.{Moment, Run}
 use Rattle.state.specs.Counting.Run.{begun, then}
+use Rattle.state.specs.CountingLaws.{run-reached}
 use Rattle.state.specs.FollowsLaws.{either-way}
 use Rattle.state.specs.Keeps.{reached-well-formed}
-use Rattle.state.specs.Reached.{Reached}
 use Rattle.state.specs.WellLaws.{Well, well, message-at}
 use Rattle.sc_abd.specs.Answers.{isMajority, chosen, ended, asking, waiting, response-answers, ack-answers}
 use Rattle.sc_abd.specs.Places.{own-after, other-after, fresh-replica}
@@ -183,10 +183,6 @@ module _ (s : State) (w : Well s) (run : List Moment) (filled : AllFilled s run)
       subst (λ t. AllFilled t (longer s (Lose k) run)) (sym (c .2)) (record { each = λ p l j h. earlier (filled .each p l j h) })
 
 -- ---- so it is in every state of a run
-
-pub run-reached : {s : State} {run : List Moment} → Run s run → Reached s
-run-reached (begun n m e f) = Reached.start n m e f
-run-reached (then s e run r z) = Reached.next s e (run-reached r) z
 
 pub repliers-replied : {s : State} {run : List Moment} → Run s run → AllFilled s run
 repliers-replied (begun n m e f) = record { each = λ p l. none-filled p (replicaOf (fresh n m) p) [] (ap (λ (r : Replica). r .repliers) (fresh-replica n m p)) }

@@ -21,11 +21,12 @@ use Rattle.replica.specs.declared.Phase.{Phase}
 use Rattle.replica.specs.declared.Phase.the-variants.{Idle, Querying, Updating}
 use Rattle.replica.specs.declared.Replica.{Replica}
 use Rattle.replica.specs.Handlers.{discarded, ackCounts, ackTaken, ackRule}
+use Rattle.replica.specs.Numbers.{pointed}
 use Rattle.tables.specs.declared.Kind.{Kind}
 use Rattle.tables.specs.declared.Kind.the-variants.{Read, Write}
 use Rattle.tables.specs.declared.Row.{Row}
 use Rattle.tables.specs.Tables.{emptyRow, removed}
-use Rattle.state.specs.State.{State, replicaOf, rowOf, pointed}
+use Rattle.state.specs.State.{State, replicaOf, rowOf}
 use Rattle.state.specs.Step.{completed}
 use Rattle.state.specs.WellFormed.{pendingOf}
 use Rattle.state.specs.Accepted.{messageAt}

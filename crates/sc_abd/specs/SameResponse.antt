@@ -19,10 +19,11 @@ use Rattle.replica.specs.declared.Phase.{Phase}
 use Rattle.replica.specs.declared.Phase.the-variants.{Idle, Querying, Updating}
 use Rattle.replica.specs.declared.Replica.{Replica}
 use Rattle.replica.specs.Handlers.{discarded, responseCounts, responseTaken, responseRule}
+use Rattle.replica.specs.Numbers.{pointed}
 use Rattle.tables.specs.declared.Kind.{Kind}
 use Rattle.tables.specs.declared.Kind.the-variants.{Read, Write}
 use Rattle.tables.specs.Tables.{removed}
-use Rattle.state.specs.State.{State, replicaOf, rowOf, pointed}
+use Rattle.state.specs.State.{State, replicaOf, rowOf}
 use Rattle.state.specs.Step.{moved, messageOf, answeredRows, askedRegister}
 use Rattle.state.specs.WellFormed.{isWrite}
 use Rattle.state.specs.Accepted.{messageAt}

@@ -9,11 +9,12 @@ use Rattle.state.specs.Keeps.{reached-well-formed}
 use Rattle.state.specs.Refusals.{refused-changes-nothing, accepted-counts-once, sizes-stay}
 use Rattle.state.specs.Sized.{reached-sized}
 use Rattle.state.specs.WellLaws.{Well, well}
+use Rattle.state.specs.EveryLaws.{getD-empty}
 use Rattle.sc_abd.specs.System.{started}
 use Rattle.sc_abd.specs.Same.{tsvOf, Same}
 use Rattle.sc_abd.specs.Demand2.{ReachedBy, Demand2}
 use Rattle.sc_abd.specs.Complete.{step-complete}
-use Rattle.sc_abd.specs.Places.{alike-at, fresh-replica}
+use Rattle.sc_abd.specs.Places.{fresh-replica}
 use Rattle.sc_abd.specs.Repliers.{none-replied}
 use Rattle.sc_abd.specs.RequestNumbersReached.{reached-numbered}
 use Rattle.sc_abd.specs.Sound.{step-sound}
@@ -27,7 +28,7 @@ start-same n m =
       processes = λ p l h. rw (fresh-replica n m p) (record {
         clock = refl;
         number = refl;
-        store = λ x least most. ap tsvOf (alike-at 16 (x - 1) startPair);
+        store = λ x least most. ap tsvOf (getD-empty 16 (x - 1) startPair);
         replies = none-replied;
         phase = refl;
       });

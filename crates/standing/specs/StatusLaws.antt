@@ -1,24 +1,16 @@
 -- What the code finds of a bench, place by place, is the status of the state that it holds, whatever the tables.
-use Prim.Native.Nat.{ℕ, zero, suc, _+_, _-_, _≤_, _<_}
-use mathlib.Core.Path.{_≡_, refl, ap}
-use mathlib.Core.List.{List, [], _∷_}
-use native.Mathlib.Nat.{le-of-suc-le-suc, not-suc-le-zero}
+use Prim.Native.Nat.{ℕ, zero, suc, _+_, _-_, _≤_}
+use mathlib.Core.Path.{_≡_, ap}
+use mathlib.Core.List.{List}
 use native.Mathlib.Omega.{arith}
 use mathlib.Core.Bool.{cond}
 use lib.Dec.{leb}
-use lib.ListN.{length, getD}
 use Rattle.words.specs.Quorum.{majorityOf}
 use Rattle.words.specs.declared.Message.{Message}
 use Rattle.tables.specs.declared.Row.{Row}
 use Rattle.state.specs.declared.Bench.{Bench}
 use Rattle.state.specs.State.{State, view, replicaOf}
 use Rattle.standing.specs.Status.{statuses, standingsOf, enough, enoughUp, upFrom}
-
--- inside a list the default does not matter
-pub getD-any : {A : Type 0} (xs : List A) (i : ℕ) (d e : A) → i < length xs → getD xs i d ≡ getD xs i e
-getD-any [] i d e l = absurd (not-suc-le-zero l)
-getD-any (x ∷ xs) zero d e l = refl
-getD-any (x ∷ xs) (suc i) d e l = getD-any xs i d e (le-of-suc-le-suc l)
 
 -- those up among 1..n, place by place up to 7
 upSum : State → ℕ → ℕ → ℕ

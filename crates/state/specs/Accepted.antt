@@ -20,12 +20,12 @@ use Rattle.replica.specs.Handlers.{unlessRefused, refused, isIdle, readRefusal,
 use Rattle.replica.specs.Handlers.{queryRefusal, queryRule, queryReceived, updateRefusal, updateRule, updateReceived}
 use Rattle.replica.specs.Handlers.{responseRefusal, responseRule, responseReceived, ackRefusal, ackRule, ackReceived}
 use Rattle.replica.specs.Handlers.{crashRefusal as downFor, crashRule, crashed}
-use Rattle.replica.specs.Numbers.{sentBy}
+use Rattle.replica.specs.Numbers.{sentBy, pointed}
 use Rattle.tables.specs.declared.Found.{Found}
 use Rattle.tables.specs.declared.Found.the-variants.{At, Missing}
 use Rattle.tables.specs.Tables.{emptyMessage, seek, removed}
 use Rattle.tables.specs.TableLaws.{seek-at}
-use Rattle.state.specs.State.{State, replicaOf, pointed}
+use Rattle.state.specs.State.{State, replicaOf}
 use Rattle.state.specs.Step.{Outcome, outcome, check, full, noRoom, invokeRefusal, loseRefusal, askedRegister}
 use Rattle.state.specs.Step.{readRow, writeRow, answeredRows, moved, withoutMessage, receivedBy, received}
 use Rattle.state.specs.Step.{stepRead, stepWrite, deliverAt, stepDeliver, stepCrash, loseAt, stepLose}
@@ -33,7 +33,7 @@ use Rattle.state.specs.PairLaws.{Within, within-ok}
 
 -- ---- an answer that refuses nothing is the plain rule's
 
-rule-answers : (number : ℕ) (r : Replica) (rule : Answer) → unlessRefused number r rule .refusal ≡ 0 → unlessRefused number r rule ≡ rule
+pub rule-answers : (number : ℕ) (r : Replica) (rule : Answer) → unlessRefused number r rule .refusal ≡ 0 → unlessRefused number r rule ≡ rule
 rule-answers number r rule e = go (eqb number 0) refl e
   where
     go : (b : Bool) → eqb number 0 ≡ b → cond b rule (refused number r) .refusal ≡ 0 → cond b rule (refused number r) ≡ rule
@@ -108,7 +108,7 @@ crashNext s p = moved s p (crashRule (replicaOf s p)) (s .flight) (s .delivered)
 outcome-next : (s : State) (number : ℕ) (next : State) → number ≡ 0 → outcome s number next .state ≡ next
 outcome-next s number next e = rw (eq-eqb number 0 e) refl
 
-passed : (holds : Bool) (number later : ℕ) → eqb number 0 ≡ false → check holds number later ≡ 0 → (holds ≡ false) × (later ≡ 0)
+pub passed : (holds : Bool) (number later : ℕ) → eqb number 0 ≡ false → check holds number later ≡ 0 → (holds ≡ false) × (later ≡ 0)
 passed true number later n e = absurd (eqb-false number 0 n e)
 passed false number later n e = (refl, e)
 

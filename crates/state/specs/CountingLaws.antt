@@ -1,5 +1,5 @@
 -- The four counters of a state are the sums over its run, and what was sent is delivered, lost or in flight.
-use Prim.Native.Nat.{ℕ, zero, suc, _+_, _<_}
+use Prim.Native.Nat.{ℕ, _+_, _<_}
 use mathlib.Core.Path.{_≡_, refl, sym, ap, _∙_}
 use mathlib.Core.Bool.{Bool, true, false, cond, _&&_}
 use mathlib.Core.List.{List, [], _∷_}
@@ -17,14 +17,12 @@ use Rattle.replica.specs.declared.Counts.the-variants.{Not, For}
 use Rattle.replica.specs.declared.Phase.{Phase}
 use Rattle.replica.specs.declared.Phase.the-variants.{Idle, Querying, Updating}
 use Rattle.replica.specs.declared.Replica.{Replica}
-use Rattle.replica.specs.declared.Sends.{Sends}
-use Rattle.replica.specs.declared.Sends.the-variants.{Nothing, Reply, Broadcast}
 use Rattle.replica.specs.Handlers.{readRule, writeRule, queryRule, updateRule, crashRule}
 use Rattle.replica.specs.Handlers.{responseCounts, responseCounted, responseTaken, responseRule, ackCounts, ackCounted, ackTaken, ackRule}
 use Rattle.replica.specs.Numbers.{sentBy}
 use Rattle.tables.specs.declared.Found.the-variants.{At as Place}
 use Rattle.tables.specs.declared.Row.{Row}
-use Rattle.tables.specs.Tables.{seek, removed, copies, following}
+use Rattle.tables.specs.Tables.{seek, removed}
 use Rattle.tables.specs.TableLaws.{seek-at}
 use Rattle.state.specs.declared.Event.{Event}
 use Rattle.state.specs.declared.Event.the-variants.{Read, Write, Deliver, Crash}
@@ -36,27 +34,14 @@ use Rattle.state.specs.Follows.{Follows, readOf, writeOf, crashOf, ruleB
 use Rattle.state.specs.Follows.Follows.{reads, writes, delivers, crashes, loses}
 use Rattle.state.specs.FollowsLaws.{either-way, accepted-follows}
 use Rattle.state.specs.Refusals.{accepted-counts-once}
+use Rattle.state.specs.EveryLaws.{length-removed}
+use Rattle.state.specs.KeepsMoved.{posted-length}
 use Rattle.state.specs.Counting.{Moment, Run, isQuerying, makesMajority, makesQueryMajority, sentOnReceipt, sentOnFound}
 use Rattle.state.specs.Counting.{sentAt, deliveredAt, lostAt, Counted}
 use Rattle.state.specs.Counting.Run.{begun, then}
 
--- ---- the lengths of the table's lists
-
-length-removed : {A : Type 0} (i : ℕ) (xs : List A) → i < length xs → length (removed i xs) + 1 ≡ length xs
-length-removed i [] l = absurd (omega arith)
-length-removed zero (x ∷ xs) l = omega arith
-length-removed (suc i) (x ∷ xs) l = let shorter = length-removed i xs (omega arith) in omega arith
-
-length-copies : (m : Message) (count : ℕ) → length (copies m count) ≡ count
-length-copies m zero = refl
-length-copies m (suc count) = ap suc (length-copies (following m) count)
-
-length-posted : (s : State) (p : ℕ) (sends : Sends) → length (posted s p sends) ≡ sentBy (s .n) sends
-length-posted s p Nothing = refl
-length-posted s p (Reply to letter) = refl
-length-posted s p (Broadcast letter) = length-copies _ (s .n)
-
-seek-within : (k i : ℕ) (xs : List Message) → seek k 0 xs ≡ Place i → i < length xs
+-- a message that was found is in the table
+pub seek-within : (k i : ℕ) (xs : List Message) → seek k 0 xs ≡ Place i → i < length xs
 seek-within k i xs e = seek-at k (length xs) i xs (sym (ap (seek k 0) (take-length xs) ∙ e)) .0
 
 -- ---- what a rule sends is what document 01 says
@@ -114,7 +99,7 @@ moved-tallied : (s : State) (e : Event) (p : ℕ) (answer : Answer) (flight : Li
     → length flight + deliveredAt e ≡ length (s .flight)
     → Tallied s e (moved s p answer flight delivered rows)
 moved-tallied s e p answer flight delivered rows h l m n =
-    omega (arith, length-append flight (posted s p (answer .sends)), length-posted s p (answer .sends))
+    omega (arith, length-append flight (posted s p (answer .sends)), posted-length s p (answer .sends))
 
 follows-tallied : {s t : State} {e : Event} → Follows s e t → Tallied s e t
 unfolding readRule writeRule crashRule

@@ -1,11 +1,12 @@
--- Laws of a test of every element: of one element, and of a list that grows, loses an element or has one changed; and the length without one.
+-- Laws of a test of every element: of one element, and of a list that grows, loses an element or has one changed; the length without one; and what
+-- stands at a place, whatever the default.
 use Prim.Native.Nat.{ℕ, zero, suc, _+_, _<_}
 use mathlib.Core.Path.{_≡_, refl}
 use mathlib.Core.Bool.{Bool, true, _&&_}
 use mathlib.Core.List.{List, [], _∷_, _++_}
 use native.Mathlib.Nat.{not-suc-le-zero, le-of-suc-le-suc}
 use native.Mathlib.Omega.{arith}
-use lib.ListN.{length, getD, set}
+use lib.ListN.{length, getD, set, replicate}
 use Rattle.words.specs.RangeLaws.{and-left, and-right}
 use Rattle.tables.specs.Tables.{removed}
 use Rattle.state.specs.WellFormed.{every}
@@ -41,3 +42,15 @@ module _ {A : Type 0} where
   length-removed i [] l = absurd (not-suc-le-zero l)
   length-removed zero (x ∷ xs) l = omega arith
   length-removed (suc i) (x ∷ xs) l = let e = length-removed i xs (le-of-suc-le-suc l) in omega arith
+
+  -- within, what stands past the end makes no difference
+  pub getD-default : (xs : List A) (i : ℕ) (d e : A) → i < length xs → getD xs i d ≡ getD xs i e
+  getD-default [] i d e l = absurd (not-suc-le-zero l)
+  getD-default (x ∷ xs) zero d e l = refl
+  getD-default (x ∷ xs) (suc i) d e l = getD-default xs i d e (le-of-suc-le-suc l)
+
+  -- a list of one value has it at every place, and behind its end too where that is the default
+  pub getD-empty : (n i : ℕ) (d : A) → getD (replicate n d) i d ≡ d
+  getD-empty zero i d = refl
+  getD-empty (suc n) zero d = refl
+  getD-empty (suc n) (suc i) d = getD-empty n i d

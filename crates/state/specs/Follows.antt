@@ -11,11 +11,12 @@ use Rattle.words.specs.declared.Pid.{Pid}
 use Rattle.replica.specs.declared.Answer.{Answer}
 use Rattle.replica.specs.declared.Replica.{Replica}
 use Rattle.replica.specs.Handlers.{readRule, writeRule, queryRule, updateRule, responseRule, ackRule, crashRule}
+use Rattle.replica.specs.Numbers.{pointed}
 use Rattle.tables.specs.declared.Found.the-variants.{At as Place}
 use Rattle.tables.specs.Tables.{emptyMessage, seek, removed}
 use Rattle.state.specs.declared.Event.{Event}
 use Rattle.state.specs.declared.Event.the-variants.{Read, Write, Deliver, Crash, Lose}
-use Rattle.state.specs.State.{State, replicaOf, pointed}
+use Rattle.state.specs.State.{State, replicaOf}
 use Rattle.state.specs.Step.{moved, withoutMessage, readRow, writeRow, answeredRows, askedRegister}
 
 -- ---- the next state, from what the process answered

@@ -22,8 +22,9 @@ use Rattle.tables.specs.Tables.{seek}
 use Rattle.state.specs.declared.Event.{Event}
 use Rattle.state.specs.declared.Event.the-variants.{Read, Write, Deliver, Crash, Lose}
 use Rattle.state.specs.State.{State, replicaOf}
-use Rattle.state.specs.Step.{Outcome, outcome, check, full, noRoom, invokeRefusal, deliverRefusal, crashRefusal, askedRegister, receivedBy, received}
+use Rattle.state.specs.Step.{Outcome, outcome, full, noRoom, invokeRefusal, deliverRefusal, crashRefusal, askedRegister, receivedBy, received}
 use Rattle.state.specs.Step.{step, stepRead, stepWrite, stepDeliver, deliverAt, stepCrash, stepLose, loseAt}
+use Rattle.state.specs.Accepted.{rule-answers, passed}
 use Rattle.state.specs.Follows.{Follows, ruleBy, afterRead, afterWrite, messageAt, receiverOf, afterDeliver, afterCrash}
 use Rattle.state.specs.Follows.Follows.{reads, writes, delivers, crashes, loses}
 
@@ -35,11 +36,7 @@ either-way P false x y h l = l
 -- ---- a handler that refuses nothing is its rule
 
 let-through : (number : ℕ) (r : Replica) (rule : Answer) → unlessRefused number r rule .refusal ≡ 0 → rule ≡ unlessRefused number r rule
-let-through number r rule = go (eqb number 0) refl
-  where
-    go : (t : Bool) → eqb number 0 ≡ t → cond t rule (refused number r) .refusal ≡ 0 → rule ≡ cond t rule (refused number r)
-    go true e z = refl
-    go false e z = absurd (eqb-false number 0 e z)
+let-through number r rule z = sym (rule-answers number r rule z)
 
 received-rule : (s : State) (r : Replica) (message : Message) (body : Body)
     → receivedBy s r message body .refusal ≡ 0 → ruleBy s r message body ≡ receivedBy s r message body
@@ -52,10 +49,6 @@ received-rule s r message Ack = let-through (ackRefusal r (s .n) (message .from)
 
 -- ---- where no check held, the last number was 0
 
-passed : (holds : Bool) (number later : ℕ) → eqb number 0 ≡ false → check holds number later ≡ 0 → later ≡ 0
-passed true number later e z = absurd (eqb-false number 0 e z)
-passed false number later e z = z
-
 invoke-passed : (s : State) (p x later : ℕ) → invokeRefusal s p x later ≡ 0 → later ≡ 0
 invoke-passed s p x later z =
     passed (noRoom (length (s .flight) + s .n)) 15 _ refl
@@ -64,15 +57,15 @@ invoke-passed s p x later z =
     (passed (replicaOf s p .crashed) 10 _ refl
     (passed (not (within x (s .m))) 9 _ refl
     (passed (not (within p (s .n))) 8 _ refl
-    (passed (full s) 17 _ refl z))))))
+    (passed (full s) 17 _ refl z .1) .1) .1) .1) .1) .1) .1
 
 deliver-passed : (s : State) (r : Replica) (answer : Answer) → deliverRefusal s r answer ≡ 0 → answer .refusal ≡ 0
 deliver-passed s r answer z =
-    passed (noRoom (length (s .flight) - 1 + sentBy (s .n) (answer .sends))) 15 _ refl (passed (r .crashed) 13 _ refl z)
+    passed (noRoom (length (s .flight) - 1 + sentBy (s .n) (answer .sends))) 15 _ refl (passed (r .crashed) 13 _ refl z .1) .1
 
 crash-passed : (s : State) (p later : ℕ) → crashRefusal s p later ≡ 0 → later ≡ 0
 crash-passed s p later z =
-    passed (replicaOf s p .crashed) 10 _ refl (passed (not (within p (s .n))) 8 _ refl (passed (full s) 17 _ refl z))
+    passed (replicaOf s p .crashed) 10 _ refl (passed (not (within p (s .n))) 8 _ refl (passed (full s) 17 _ refl z .1) .1) .1
 
 -- ---- every outcome: the state as it was, or what the rule gives
 

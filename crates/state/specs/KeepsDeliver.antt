@@ -26,11 +26,12 @@ use Rattle.replica.specs.declared.Sends.{Sends}
 use Rattle.replica.specs.declared.Sends.the-variants.{Nothing, Reply, Broadcast}
 use Rattle.replica.specs.Clock.{after}
 use Rattle.replica.specs.Handlers.{accepted, ackCounts, ackCounted, ackTaken, ackRule, moved as placed}
+use Rattle.replica.specs.Numbers.{pointed}
 use Rattle.tables.specs.declared.Kind.{Kind}
 use Rattle.tables.specs.declared.Kind.the-variants.{Read, Write}
 use Rattle.tables.specs.declared.Row.{Row}
 use Rattle.tables.specs.Tables.{emptyRow, removed}
-use Rattle.state.specs.State.{State, replicaOf, pointed}
+use Rattle.state.specs.State.{State, replicaOf}
 use Rattle.state.specs.Step.{kept, completed, answeredRows, moved, stepDeliver}
 use Rattle.state.specs.WellFormed.{bodyFits, messageFits, isWrite, rowFits, pendingOf}
 use Rattle.state.specs.Accepted.{plainBy, messageAt, deliver-accepted}

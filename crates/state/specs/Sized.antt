@@ -10,12 +10,12 @@ use Rattle.replica.specs.declared.Answer.{Answer}
 use Rattle.replica.specs.declared.Ended.{Ended}
 use Rattle.replica.specs.declared.Ended.the-variants.{Pending, At}
 use Rattle.replica.specs.Handlers.{readRule, writeRule, crashRule}
-use Rattle.replica.specs.Numbers.{sentBy}
+use Rattle.replica.specs.Numbers.{sentBy, pointed}
 use Rattle.tables.specs.declared.Row.{Row}
 use Rattle.tables.specs.Tables.{emptyRow, removed}
 use Rattle.state.specs.declared.Event.{Event}
 use Rattle.state.specs.declared.Event.the-variants.{Read, Write, Deliver, Crash, Lose}
-use Rattle.state.specs.State.{State, replicaOf, pointed}
+use Rattle.state.specs.State.{State, replicaOf}
 use Rattle.state.specs.Step.{posted, readRow, writeRow, completed, answeredRows, moved, withoutMessage, step}
 use Rattle.state.specs.Reached.{Reached, start, next}
 use Rattle.state.specs.Accepted.{Invoked, readNext, writeNext, crashNext, deliverNext, plain, messageAt, recipientAt, InFlight, Deliverable}
@@ -58,7 +58,7 @@ crash-sized : (s : State) (p : ℕ) → Sized s → Sized (crashNext s p)
 unfolding crashRule
 crash-sized s p z = moved-sized s p (crashRule (replicaOf s p)) (s .flight) (s .delivered) (s .rows) (omega (arith, z .flight)) (z .rows)
 
-answered-length : (rows : List Row) (number : ℕ) (ended : Ended) → length (answeredRows rows number ended) ≡ length rows
+pub answered-length : (rows : List Row) (number : ℕ) (ended : Ended) → length (answeredRows rows number ended) ≡ length rows
 answered-length rows number Pending = refl
 answered-length rows number (At time pair) = length-set rows (number - 1) (completed (getD rows (number - 1) emptyRow) time pair)
 

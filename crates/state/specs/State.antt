@@ -7,8 +7,7 @@ use lib.ListN.{length, getD, set, replicate, take}
 use Rattle.words.specs.declared.Message.{Message}
 use Rattle.words.specs.Stamps.{startPair}
 use Rattle.replica.specs.declared.Replica.{Replica}
-use Rattle.replica.specs.declared.Phase.{Phase}
-use Rattle.replica.specs.declared.Phase.the-variants.{Idle, Querying, Updating}
+use Rattle.replica.specs.declared.Phase.the-variants.{Idle}
 use Rattle.tables.specs.declared.Row.{Row}
 use Rattle.tables.specs.Tables.{emptyMessage, emptyRow}
 use Rattle.state.specs.declared.Bench.{Bench}
@@ -45,12 +44,6 @@ replicaOf s p = getD (s .replicas) (p - 1) freshReplica
 -- row number i, counted from 1
 abbrev pub rowOf : State → ℕ → Row
 rowOf s i = getD (s .rows) (i - 1) emptyRow
-
--- the row that a waiting replica points to, 0 while idle
-abbrev pub pointed : Phase → ℕ
-pointed Idle = 0
-pointed (Querying row best) = row
-pointed (Updating row sent) = row
 
 -- a bench that was just started
 abbrev pub fresh : ℕ → ℕ → State

@@ -24,7 +24,7 @@ use Rattle.replica.specs.declared.Replica.{Replica}
 use Rattle.replica.specs.declared.Sends.{Sends}
 use Rattle.replica.specs.declared.Sends.the-variants.{Nothing, Reply, Broadcast}
 use Rattle.replica.specs.Handlers.{isIdle, readBegun, writeBegun, queryReceived, updateReceived, responseReceived, ackReceived, crashed}
-use Rattle.replica.specs.Numbers.{sentBy}
+use Rattle.replica.specs.Numbers.{sentBy, pointed}
 use Rattle.tables.specs.declared.Found.{Found}
 use Rattle.tables.specs.declared.Found.the-variants.{At as Place, Missing}
 use Rattle.tables.specs.declared.Kind.{Kind}
@@ -33,7 +33,7 @@ use Rattle.tables.specs.declared.Row.{Row}
 use Rattle.tables.specs.Tables.{emptyMessage, emptyRow, seek, removed, copies}
 use Rattle.state.specs.declared.Event.{Event}
 use Rattle.state.specs.declared.Event.the-variants.{Read, Write, Deliver, Crash, Lose}
-use Rattle.state.specs.State.{State, replicaOf, rowOf, pointed}
+use Rattle.state.specs.State.{State, replicaOf, rowOf}
 
 pub record Outcome : Type 0 where
   pub refusal : ℕ

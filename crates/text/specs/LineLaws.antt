@@ -17,6 +17,7 @@ use Rattle.tables.specs.declared.Kind.the-variants.{Read, Write}
 use Rattle.tables.specs.declared.Row.{Row}
 use Rattle.state.specs.State.{freshReplica, State, replicaOf, view}
 use Rattle.state.specs.declared.Bench.{Bench}
+use Rattle.state.specs.EveryLaws.{getD-default}
 use Rattle.text.specs.Lines.{pairText, isBlank, blankText, rowHead, rowRest, regText, regTexts}
 use Rattle.text.specs.Lines.{procTexts, storeTexts, runText, procText, countText, tailText}
 use Rattle.text.specs.Printed.{number, field, dash, answered, ending, rowLine, regLine, regLines, procLine}
@@ -129,23 +130,17 @@ one-reg pairs p i =
     ap (λ (y : ℕ). regTexts pairs p 1 i ++ regLine p (i + 1) (getD pairs y startPair)) (sym (before-one i))
     ∙ lines-more (λ x. regLine p x (getD pairs (x - 1) startPair)) (regTexts pairs p) (λ x. refl) (λ x k. refl) i
 
--- inside a list it does not matter what stands outside it
-inside : {A : Type 0} (l : List A) (i : ℕ) (a b : A) → i < length l → getD l i a ≡ getD l i b
-inside [] i a b h = absurd (omega arith)
-inside (x ∷ l) zero a b h = refl
-inside (x ∷ l) (suc i) a b h = inside l i a b (omega arith)
-
 pub one-proc : (replicas : List Replica) (i : ℕ) (d : Replica) → i < length replicas
     → procTexts replicas 1 i ++ procLine (i + 1) (getD replicas i d) ≡ procTexts replicas 1 (i + 1)
 one-proc replicas i d within =
-    ap (λ (r : Replica). procTexts replicas 1 i ++ procLine (i + 1) r) (inside replicas i d freshReplica within)
+    ap (λ (r : Replica). procTexts replicas 1 i ++ procLine (i + 1) r) (getD-default replicas i d freshReplica within)
     ∙ ap (λ (y : ℕ). procTexts replicas 1 i ++ procLine (i + 1) (getD replicas y freshReplica)) (sym (before-one i))
     ∙ lines-more (λ p. procLine p (getD replicas (p - 1) freshReplica)) (procTexts replicas) (λ x. refl) (λ x k. refl) i
 
 pub one-store : (replicas : List Replica) (m i : ℕ) (d : Replica) → i < length replicas
     → storeTexts replicas m 1 i ++ regLines (getD replicas i d) (i + 1) 1 m ≡ storeTexts replicas m 1 (i + 1)
 one-store replicas m i d within =
-    ap (λ (r : Replica). storeTexts replicas m 1 i ++ regLines r (i + 1) 1 m) (inside replicas i d freshReplica within)
+    ap (λ (r : Replica). storeTexts replicas m 1 i ++ regLines r (i + 1) 1 m) (getD-default replicas i d freshReplica within)
     ∙ ap (λ (y : ℕ). storeTexts replicas m 1 i ++ regLines (getD replicas y freshReplica) (i + 1) 1 m) (sym (before-one i))
     ∙ lines-more (λ p. regLines (getD replicas (p - 1) freshReplica) p 1 m) (storeTexts replicas m) (λ x. refl) (λ x k. refl) i
 

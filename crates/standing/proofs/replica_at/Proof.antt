@@ -1,5 +1,5 @@
 -- `standing::replica_at` meets its contract.
-use Rattle.standing.specs.StatusLaws.{getD-any}
+use Rattle.state.specs.EveryLaws.{getD-default}
 use Rattle.state.specs.State.{freshReplica}
 use Prim.Native.Nat.{_-_}
 use native.Mathlib.Omega.{arith}
@@ -23,7 +23,7 @@ element-copy-out-result c = search needs
 returns : tie.Need-returns
 returns c =
     let s = c .before in
-    getD-any (s .args .t1 .replicas) (s .args .p - 1) _ freshReplica (omega (arith, s .pre))
+    getD-default (s .args .t1 .replicas) (s .args .p - 1) _ freshReplica (omega (arith, s .pre))
 
 pub replica-at-spec : {M : Type 1} → statement M
 replica-at-spec = tie.close (tie.spec sub-at cast-at mul-result element-copy-out-result returns)

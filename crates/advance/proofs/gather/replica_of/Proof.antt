@@ -4,7 +4,7 @@ use Prim.Native.Nat.{_-_}
 use native.Mathlib.Omega.{arith}
 use lib.ListN.{List·getD-eq-default}
 use Rattle.state.specs.State.{freshReplica}
-use Rattle.advance.specs.ListLaws.{getD-default}
+use Rattle.state.specs.EveryLaws.{getD-default}
 use borrow.Author.Needs.{needs}
 use Rattle.advance.proofs.gather.replica_of.Statement.{statement}
 use Rattle.advance.proofs.gather.replica_of.Tie as tie
