@@ -14,6 +14,7 @@ A description is a Python file that sets
   uses                further `use` lines (of your specs, Flow, Lists, ..)
   loop                True where the walk takes a `Tables` 𝓣: it has a loop, or an arm that ends in a call (`lasts`)
   structs             further structs as parameters, {'Limits': 'Rattle.judge.specs.declared.Limits', ..}: the kind is the struct's name, its facts are in the module OfLimits of the crate's proofs (R, val, vals, tells, typed, makes, imported as RLimits, valLimits, ..); where that module is another crate's, a pair: its record's module, and that module's full name
+  A parameter may also be of a kind 'R-Name': the struct or enum `Name`, with `R as R-Name, val as val-Name, vals, tells, typed, makes` in `uses`
   alias               how the module of the function is called in the proof (default: as the function; a function called `run` needs another)
   own                 the names of Callees.antt of the crate itself, beside MessageCalls and RowCalls of lib. A callee in a module is named with a dot: ('messages.scan_message', 'ScanMessage', 'judge')
   root                the repository (default: the folder above this one)        second   the struct of R₂ (default Entry; its module is Row<second>)
@@ -71,8 +72,9 @@ kinds=[k.rstrip('₂816') for _,k in slices]
 rw=['R₂' if k.endswith('₂') else 'u8' if k.endswith('8') else 'u16' if k.endswith('16') else 'R' for _,k in slices]
 elt=d.get('second','Row')
 el=[elt if r=='R₂' else 'ℕ' if r in('u8','u16') else 'Message' for r in rw]
-isR=lambda k:k in('R','R₂') or k in ST
-q2=lambda k:'₂' if k=='R₂' else k if k in ST else ''
+isR=lambda k:k in('R','R₂') or k in ST or k.startswith('R-')
+q2=lambda k:'₂' if k=='R₂' else k if k in ST else k[1:]
+denot=lambda k:'Message' if k=='R' else elt if k=='R₂' else k if k in ST else k[2:]
 SN=lambda j:'MutSlice' if kinds[j]=='mut' else 'ShrSlice'
 chain=lambda v,j:v+' .1'*j+' .0'
 chainP=lambda v,j:v+' .1'*sidx[j]+' .0'
@@ -127,10 +129,10 @@ rows=' ∷ '.join(row(k) for _,k in rest)+(' ∷ ' if rest else '')+'[]'
 vs=' ∷ '.join(order([f'sliceVal (b{x}, o{x}) n{x}' for x in sfx],[mach(v,k) for v,k in rest]))+' ∷ []'
 typing={'usize':'(tt, record { fits = g%s })','u64':'(tt, record { fits = g%s })','u32':'(tt, record { fits = g%s })','u8':'(tt, record { fits = g%s })','R':'(typed 𝓤 H A W %s g%s)'}
 def ty(v,k): return f'(typed{q2(k)} 𝓤 H A W {v} g{v})' if isR(k) else '(tt, tt)' if k=='bool' else f'(sint-lawful 𝓤 H A W {SW[k]} .typed {v} _ g{v} .0)' if k in SW else f'(tt, record {{ fits = g{v} }})'
-facts=[f'Room {rw[j]} n{x}' for j,x in enumerate(sfx)]+[(f'Is {row(k)} {v} (vals{q2(k)} {v})' if isR(k) else 'Unit {0}' if k=='bool' else f'Is {k} {v} (sint-vals {SW[k]} {v})' if k in SW else f'{v} < 2 ^ {W[k][1:]}') for v,k in rest]+list(d['requires'])
+facts=[f'Room {rw[j]} n{x}' for j,x in enumerate(sfx)]+[(f'Is {row(k)} {v} (vals{q2(k)} {v})' if isR(k) else 'Unit {0}' if k=='bool' else f'Is {k} {v} (sint-vals {SW[k]} {v})' if k in SW else f'{v} < 2 ^ {W[k][1:]}') for v,k in rest]+[f'({r})' if '→' in r else r for r in d['requires']]
 reqs=d['requires']
 fnames=[f'gn{x}' for x in sfx]+['g'+v for v,_ in rest]+[f'h{sub(i)}' for i in range(len(reqs))]
-bind=' '.join(f'({v} : {"Message" if k=="R" else elt if k=="R₂" else k if k in ST else "Bool" if k=="bool" else "ℤ" if k in SW else "ℕ"})' for v,k in rest)
+bind=' '.join(f'({v} : {denot(k) if isR(k) else "Bool" if k=="bool" else "ℤ" if k in SW else "ℕ"})' for v,k in rest)
 cal=[(c[0],c[1],c[2] if len(c)>2 else lib) for c in d['callees']]
 kn=' '.join(f'({base(c)}-known : Triple 𝓤 (C #{cc}·{sym(c)}) ({K} 𝓤 H A mem run))' for c,K,cc in cal)
 knT=''.join(f'Triple 𝓤 (CC #{cc}·{sym(c)}) ({K} 𝓤 H A mem run) → ' for c,K,cc in cal)
@@ -152,9 +154,9 @@ def areproj(i,k):
 envs={v:proj(i+1) for i,(v,_) in enumerate(rest)}
 def inst(f):
     for j,x in enumerate(sfx):
-        f=re.sub(r'(?<![\w-])n'+x+r'(?![\w-])',f'length (now ({chainP("a",j)}))',f)
-        f=re.sub(r'(?<![\w-])ys'+x+r'(?![\w-])',f'now ({chainP("a",j)})',f)
-    for v,pj in envs.items(): f=re.sub(r'(?<![\w-])'+v+r'(?![\w-])','('+pj+')' if False else pj,f)
+        f=re.sub(r'(?<![\w-])n'+x+r'(?![\w-])',f'(length (now ({chainP("a",j)})))',f)
+        f=re.sub(r'(?<![\w-])ys'+x+r'(?![\w-])',f'(now ({chainP("a",j)}))',f)
+    for v,pj in envs.items(): f=re.sub(r'(?<![\w-])'+v+r'(?![\w-])','('+pj+')',f)
     return f
 def prod(xs): return xs[0] if len(xs)==1 else f'({xs[0]}) × '+(f'({prod(xs[1:])})' if len(xs[1:])>1 else f'({xs[1]})')
 def lproj(i,m): return 'l' if m==1 else 'l'+' .1'*i+('' if i==m-1 else ' .0')

@@ -1,5 +1,7 @@
 pub mod Askeds
 pub mod Benches
+pub mod ValueCalls
+pub mod TableCalls
 pub mod Callees
 pub mod Events
 pub mod Founds

@@ -15,8 +15,8 @@ use tables::Found;
 use tables::Row;
 use words::Message;
 
-pub mod gather;
-pub mod plans;
+mod gather;
+mod plans;
 
 // What was found among the messages in flight: the place of the wanted number, and its message, the empty one where there is none.
 pub struct Sought {

@@ -23,7 +23,8 @@ use tables::message_count;
 use tables::row_count;
 use words::Message;
 
-pub mod replies;
+pub mod fresh;
+mod replies;
 
 // The reply to `order`: how many row numbers were laid.
 pub struct Ordered {

@@ -2,26 +2,17 @@
 ghost use mathlib.Core.Path.{_≡_};
 ghost use mathlib.Core.Bool.{true, cond};
 ghost use lib.ListN.{length};
-ghost use Rattle.words.specs.Stamps.{startPair};
-ghost use Rattle.state.specs.State.{freshReplica, fresh};
-ghost use Rattle.state.specs.Tabled.{benchOf};
 ghost use Rattle.standing.specs.Status.{standingsOf, downs};
 ghost use Rattle.bench.specs.Start.{startRefusal, starts, startReply};
 ghost use Rattle.bench.specs.Listing.{canList, listedReply, unlisted};
 ghost use Rattle.bench.specs.Reply.{unformed};
 use crate::Ordered;
-use replica::Phase;
-use replica::Replica;
+use crate::fresh::fresh_bench;
 use standing::Statuses;
 use standing::all_down;
 use standing::standings_of;
 use state::Bench;
 use state::Stepped;
-use words::Pair;
-use words::Pid;
-use words::Rid;
-use words::Stamp;
-use words::Time;
 use words::ranges::PROCESSES;
 use words::ranges::REGISTERS;
 use words::ranges::is_within;
@@ -37,38 +28,6 @@ const NO_PROCESSES: u8 = 4;
 const NO_REGISTERS: u8 = 5;
 
 const NOT_FORMED: u8 = 18;
-
-// A bench that was just started; of 0 processes and 0 registers it is none.
-pub fn fresh_bench(n: u8, m: u8) -> Bench
-    ensures { λ r. ⌜ r ≡ benchOf (fresh n m) ⌝ }
-{
-    let pair = Pair {
-        stamp: Stamp {
-            time: Time(0),
-            process: Pid(0),
-        },
-        value: 0,
-    };
-    let replica = Replica {
-        crashed: false,
-        clock: Time(0),
-        rid: Rid(0),
-        phase: Phase::Idle,
-        repliers: 0,
-        pairs: [pair; 16],
-    };
-    Bench {
-        n: n,
-        m: m,
-        accepted: 0,
-        sent: 0,
-        delivered: 0,
-        lost: 0,
-        flight: 0,
-        rows: 0,
-        replicas: [replica; 7],
-    }
-}
 
 // The first check that holds, 0 if none does.
 fn start_refusal(n: u8, m: u8, messages: usize, rows: usize) -> u8

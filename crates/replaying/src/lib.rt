@@ -14,7 +14,7 @@ use tables::empty_message;
 use tables::empty_row;
 use text::lines::put_refusal;
 
-pub mod parts;
+mod parts;
 
 const MESSAGES: usize = 512;
 

@@ -16,8 +16,8 @@ use tables::message_count;
 use tables::row_count;
 use words::Message;
 
-pub mod opening;
-pub mod turns;
+mod opening;
+mod turns;
 
 // Events stand behind length, version, N and M.
 const FIRST_EVENT: usize = 7;

@@ -2,7 +2,7 @@
 ghost use mathlib.Core.Path.{_≡_};
 ghost use lib.Dec.{eqb};
 ghost use Rattle.schedule.specs.Opening.{openingRefusal, opened};
-use bench::replies::fresh_bench;
+use bench::fresh::fresh_bench;
 use format::file::file_refusal;
 use state::Bench;
 use state::Stepped;

@@ -2,8 +2,8 @@
 mod bytes;
 pub mod lines;
 mod numbers;
-pub mod order;
-pub mod registers;
-pub mod replicas;
+mod order;
+mod registers;
+mod replicas;
 pub mod rows;
 pub mod tail;

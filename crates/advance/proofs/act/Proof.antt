@@ -40,7 +40,7 @@ use Rattle.tables.proofs.Rows.{R as R₂}
 use Rattle.tables.proofs.Calls.{Mut, slice}
 use Rattle.advance.proofs.Callees.{WorkOfs, Concludes, calls-work-of, calls-conclude}
 use Rattle.advance.proofs.plans.work_of.Symbol as work-of-def
-use Rattle.advance.proofs.plans.work_of.Symbol.{name as #advance·work-of}
+use Rattle.advance.proofs.plans.work_of.Symbol.{name as #advance·plans·work-of}
 use Rattle.advance.proofs.plans.work_of.Met as work-of-thm
 use Rattle.advance.proofs.conclude.Symbol as conclude-def
 use Rattle.advance.proofs.conclude.Symbol.{name as #advance·conclude}
@@ -92,13 +92,13 @@ module _ {M : Type 1} (𝓤 : URA M) (H : Heap 𝓤) (A : Atoms 𝓤) (W : Given
   still : (w : Work) → w ≡ workOf bench event k → Sound (workOf bench event k) n₀ → Sound w n₀
   still w ew h = subst (λ (u : Work). Sound u n₀) (sym ew) h
 
-  module _ (C : Calls 𝓤 H) (Λ : Loops 𝓤 H) (fm : FmC 𝓤 H (W .laws) C) (work-of-known : Triple 𝓤 (C #advance·work-of) (WorkOfs 𝓤 H A mem run)) (conclude-known : Triple 𝓤 (C #advance·conclude) (Concludes 𝓤 H A mem run)) where
+  module _ (C : Calls 𝓤 H) (Λ : Loops 𝓤 H) (fm : FmC 𝓤 H (W .laws) C) (work-of-known : Triple 𝓤 (C #advance·plans·work-of) (WorkOfs 𝓤 H A mem run)) (conclude-known : Triple 𝓤 (C #advance·conclude) (Concludes 𝓤 H A mem run)) where
     walk : Room R n₀ → Room R₂ n₁ → Is R-Bench bench (vals-Bench bench) → Is R-Event event (vals-Event event) → Is R-Known k (vals-Known k) → Bounded bench → Sound (workOf bench event k) n₀ → ent 𝓤 (onEntry 𝓤 H A act.signature (κ₀, (κ₁, tt)) (q₀, (q₁, tt)) a at) (WpFn 𝓤 H C Λ code.function (sliceVal (b₀, o₀) n₀ ∷ sliceVal (b₁, o₁) n₁ ∷ val-Bench bench ∷ val-Event event ∷ val-Known k ∷ []) Post)
     walk gn₀ gn₁ gbench gevent gk h₀ h₁ =
         qed W ((‵ (flft κ₀ q₀) ⊛ (‵ (flft κ₁ q₁) ⊛ ‵ ftrue)) ∷ ‵ (owns (MutSlice (named 0) κ₀ R ∷ MutSlice (named 1) κ₁ R₂ ∷ R-Bench ∷ R-Event ∷ R-Known ∷ []) a at) ∷ []) ∵ enter ! C Λ code.function (sliceVal (b₀, o₀) n₀ ∷ sliceVal (b₁, o₁) n₁ ∷ val-Bench bench ∷ val-Event event ∷ val-Known k ∷ []) _ $
         alloc1 ! (λ l₀. alloc1 ! (λ l₁. alloc1 ! (λ l₂. alloc1 ! (λ l₃. alloc1 ! (λ l₄. alloc1 ! (λ l₅. alloc1 ! (λ l₆. alloc1 ! (λ l₇. alloc1 ! (λ l₈. alloc1 ! (λ l₉. alloc1 ! (λ l₁₀. alloc0 ! $ params1 ! $
         pass1 ! (init ! 18 refl (tt, (tt, (record { fits = gn₀ .0 }, tt)))) $ pass1 ! (init ! 16 refl (tt, (tt, (record { fits = gn₁ .0 }, tt)))) $ pass1 ! (init ! 14 refl (typed-Bench 𝓤 H A W bench gbench)) $ pass1 ! (init ! 12 refl (typed-Event 𝓤 H A W event gevent)) $ pass1 ! (init ! 10 refl (typed-Known 𝓤 H A W k gk)) $ pass0 ! $
-        move ! (23 ∷ 22 ∷ []) $ fsplit ! $ move ! (1 ∷ []) $ fsplit ! $ move ! (3 ∷ []) $ split ! $ move ! (1 ∷ []) $ split ! $ move ! (5 ∷ 2 ∷ 3 ∷ 0 ∷ 1 ∷ 4 ∷ []) $
+        move ! (23 ∷ 22 ∷ []) $ fsplit ! $ move ! (1 ∷ []) $ fsplit ! $ move ! (3 ∷ []) $ split ! $ move ! (1 ∷ []) $ split ! $ move ! (5 ∷ 2 ∷ 3 ∷ []) $
         -- [the first slice; its token; the second; its token; true; what the others own; _10 (6); …; _9 (8); …; _8 (10); …; _7 (12); …; _6 (14); …; _5 (16); …; _4 (18); …; _3 (20); …; _2 (22); …; _1 (24); …; _0 (26); …]
         calls-work-of ! fm mem run work-of-known bench event k gbench gevent gk h₀ (λ P. and-then ! (load ! (from ! (stop !)) (look ! 21 refl)) (and-then ! (load ! (from ! (stop !)) (look ! 19 refl)) (and-then ! (load ! (from ! (stop !)) (look ! 17 refl)) (no-more !)))) (λ w gw ew.
         land ! (from ! (stop !)) (init ! 14 refl (typed-Work 𝓤 H A W w gw)) $
@@ -113,12 +113,12 @@ module _ {M : Type 1} (𝓤 : URA M) (H : Heap 𝓤) (A : Atoms 𝓤) (W : Given
         keep ! (0 ∷ 1 ∷ 2 ∷ 3 ∷ 5 ∷ []) $ by ! (exits r gr ms rs len₀ len₁ (er ∙ ap (λ (u : Work). u .stepped) ew) (e₀ ∙ ap (λ (u : Work). carriedMessages u ys₀) ew) (e₁ ∙ ap (λ (u : Work). carriedRows u ys₁) ew)))))))))))))))
 
 module _ {M : Type 1} (𝓤 : URA M) (H : Heap 𝓤) (A : Atoms 𝓤) (W : Given 𝓤 H A) (mem : Memory → SProp 𝓤) (run : Routine → Fun 𝓤) where
-  act-walks : (C : Calls 𝓤 H) (Λ : Loops 𝓤 H) → FmC 𝓤 H (W .laws) C → Triple 𝓤 (C #advance·work-of) (WorkOfs 𝓤 H A mem run) → Triple 𝓤 (C #advance·conclude) (Concludes 𝓤 H A mem run) → Walks 𝓤 H A act.ended stayed (WpFn 𝓤 H C Λ code.function) (act.clauses 𝓤 H A mem run)
+  act-walks : (C : Calls 𝓤 H) (Λ : Loops 𝓤 H) → FmC 𝓤 H (W .laws) C → Triple 𝓤 (C #advance·plans·work-of) (WorkOfs 𝓤 H A mem run) → Triple 𝓤 (C #advance·conclude) (Concludes 𝓤 H A mem run) → Walks 𝓤 H A act.ended stayed (WpFn 𝓤 H C Λ code.function) (act.clauses 𝓤 H A mem run)
   act-walks C Λ fm k₀ k₁ = walked 𝓤 H A act.ended stayed (act.clauses 𝓤 H A mem run) (WpFn 𝓤 H C Λ code.function) (λ κs. (slice-vals, (slice-vals, (vals-Bench, (vals-Event, (vals-Known, tt)))))) (λ κs. (mut-slice-tells (named 0) (κs .0) R, (mut-slice-tells (named 1) (κs .1 .0) R₂, (tells-Bench, (tells-Event, (tells-Known, tt))))))
       (λ κs qs bounds a g are. needs 𝓤 ((Bounded (a .1 .1 .0)) × (Sound (workOf (a .1 .1 .0) (a .1 .1 .1 .0) (a .1 .1 .1 .1 .0)) (length (now (a .0))))) _ (λ l.
       walk 𝓤 H A W mem run (κs .0) (κs .1 .0) (qs .0) (qs .1 .0) (a .0 .ptr .0) (a .0 .ptr .1) (a .1 .0 .ptr .0) (a .1 .0 .ptr .1) (a .0 .name) (a .1 .0 .name) (a .0 .now) (a .1 .0 .now) (a .1 .1 .0) (a .1 .1 .1 .0) (a .1 .1 .1 .1 .0) C Λ fm k₀ k₁ (are .0 .0 .1) (are .1 .0 .0 .1) (are .1 .1 .0) (are .1 .1 .1 .0) (are .1 .1 .1 .1 .0) (l .0) (l .1)))
 
-act-meets : {M : Type 1} (𝓤 : URA M) (H : Heap 𝓤) (A : Atoms 𝓤) → Given 𝓤 H A → (mem : Memory → SProp 𝓤) (run : Routine → Fun 𝓤) (𝓣 : Tables 𝓤 H) → Triple 𝓤 (𝓣 .C #advance·work-of) (WorkOfs 𝓤 H A mem run) → Triple 𝓤 (𝓣 .C #advance·conclude) (Concludes 𝓤 H A mem run) → Meets 𝓤 H A act.signature (WpFn 𝓤 H (𝓣 .C) (𝓣 .Λ) code.function) (act.spec 𝓤 H A mem run)
+act-meets : {M : Type 1} (𝓤 : URA M) (H : Heap 𝓤) (A : Atoms 𝓤) → Given 𝓤 H A → (mem : Memory → SProp 𝓤) (run : Routine → Fun 𝓤) (𝓣 : Tables 𝓤 H) → Triple 𝓤 (𝓣 .C #advance·plans·work-of) (WorkOfs 𝓤 H A mem run) → Triple 𝓤 (𝓣 .C #advance·conclude) (Concludes 𝓤 H A mem run) → Meets 𝓤 H A act.signature (WpFn 𝓤 H (𝓣 .C) (𝓣 .Λ) code.function) (act.spec 𝓤 H A mem run)
 act-meets 𝓤 H A W mem run 𝓣 k₀ k₁ = walk-meets 𝓤 H A act.ended stayed W (goes-slice 𝓤 H A W 2 0 tt (plain (λ _. R)), (goes-slice 𝓤 H A W 2 1 tt (plain (λ _. R₂)), (goes-none 𝓤 H A W 2 (λ _. R-Bench) yes (λ κs x f. refl), (goes-none 𝓤 H A W 2 (λ _. R-Event) yes (λ κs x f. refl), (goes-none 𝓤 H A W 2 (λ _. R-Known) yes (λ κs x f. refl), tt))))) (act.clauses 𝓤 H A mem run)
     (WpFn 𝓤 H (𝓣 .C) (𝓣 .Λ) code.function) (WpFn-mono 𝓤 H (W .laws) 𝓣 code.function) (act-walks 𝓤 H A W mem run (𝓣 .C) (𝓣 .Λ) (fmOf 𝓤 H (W .laws) 𝓣) k₀ k₁)
 
@@ -128,5 +128,5 @@ act-spec 𝓤 H 𝓜 𝓖 𝓡 =
     entered 𝓤 H (tripleOf 𝓤 H (𝓖 .A) act.signature (act.spec 𝓤 H (𝓖 .A) (𝓜 .mem) (𝓡 .run)))
     (tables 𝓤 H 𝓜 𝓡 code.env .C) (tables 𝓤 H 𝓜 𝓡 code.env .Λ) #advance·act code.function (code.unfolded 𝓤 H 𝓜 𝓡)
     (act-meets 𝓤 H (𝓖 .A) (givenOf 𝓤 H 𝓜 𝓖) (𝓜 .mem) (𝓡 .run) (tablesOf 𝓤 H 𝓜 (tables 𝓤 H 𝓜 𝓡 code.env))
-    (cited 𝓤 H (WorkOfs 𝓤 H (𝓖 .A) (𝓜 .mem) (𝓡 .run)) 𝓜 𝓡 code.env #advance·work-of work-of-def.routine code.calls-advance·plans·work-of (work-of-thm.met 𝓤 H 𝓜 𝓖 𝓡))
+    (cited 𝓤 H (WorkOfs 𝓤 H (𝓖 .A) (𝓜 .mem) (𝓡 .run)) 𝓜 𝓡 code.env #advance·plans·work-of work-of-def.routine code.calls-advance·plans·work-of (work-of-thm.met 𝓤 H 𝓜 𝓖 𝓡))
     (cited 𝓤 H (Concludes 𝓤 H (𝓖 .A) (𝓜 .mem) (𝓡 .run)) 𝓜 𝓡 code.env #advance·conclude conclude-def.routine code.calls-advance·conclude (conclude-thm.met 𝓤 H 𝓜 𝓖 𝓡)))

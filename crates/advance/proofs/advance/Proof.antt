@@ -98,7 +98,7 @@ module _ {M : Type 1} (𝓤 : URA M) (H : Heap 𝓤) (A : Atoms 𝓤) (W : Given
         qed W ((‵ (flft κ₀ q₀) ⊛ (‵ (flft κ₁ q₁) ⊛ ‵ ftrue)) ∷ ‵ (owns (MutSlice (named 0) κ₀ R ∷ MutSlice (named 1) κ₁ R₂ ∷ R-Bench ∷ R-Event ∷ []) a at) ∷ []) ∵ enter ! C Λ code.function (sliceVal (b₀, o₀) n₀ ∷ sliceVal (b₁, o₁) n₁ ∷ val-Bench bench ∷ val-Event event ∷ []) _ $
         alloc1 ! (λ l₀. alloc1 ! (λ l₁. alloc1 ! (λ l₂. alloc1 ! (λ l₃. alloc1 ! (λ l₄. alloc1 ! (λ l₅. alloc1 ! (λ l₆. alloc1 ! (λ l₇. alloc1 ! (λ l₈. alloc1 ! (λ l₉. alloc1 ! (λ l₁₀. alloc1 ! (λ l₁₁. alloc1 ! (λ l₁₂. alloc1 ! (λ l₁₃. alloc1 ! (λ l₁₄. alloc0 ! $ params1 ! $
         pass1 ! (init ! 26 refl (tt, (tt, (record { fits = gn₀ .0 }, tt)))) $ pass1 ! (init ! 24 refl (tt, (tt, (record { fits = gn₁ .0 }, tt)))) $ pass1 ! (init ! 22 refl (typed-Bench 𝓤 H A W bench gbench)) $ pass1 ! (init ! 20 refl (typed-Event 𝓤 H A W event gevent)) $ pass0 ! $
-        move ! (31 ∷ 30 ∷ []) $ fsplit ! $ move ! (1 ∷ []) $ fsplit ! $ move ! (3 ∷ []) $ split ! $ move ! (1 ∷ []) $ split ! $ move ! (5 ∷ 2 ∷ 3 ∷ 0 ∷ 1 ∷ 4 ∷ []) $
+        move ! (31 ∷ 30 ∷ []) $ fsplit ! $ move ! (1 ∷ []) $ fsplit ! $ move ! (3 ∷ []) $ split ! $ move ! (1 ∷ []) $ split ! $ move ! (5 ∷ 2 ∷ 3 ∷ []) $
         -- [the first slice; its token; the second; its token; true; what the others own; _14 (6); …; _13 (8); …; _12 (10); …; _11 (12); …; _10 (14); …; _9 (16); …; _8 (18); …; _7 (20); …; _6 (22); …; _5 (24); …; _4 (26); …; _3 (28); …; _2 (30); …; _1 (32); …; _0 (34); …]
         assigns ! (addr ! (from ! (fld ! refl (hop ! (look-in ! 32 (sub ! 0 refl (whole !))) (stop !))))) (from ! (stop !)) (init ! 20 refl (tt, tt)) $
         assigns ! (agg ! (and-then ! (load ! (from ! (stop !)) (look ! 20 refl)) (and-then ! (load ! (from ! (fld ! refl (stop !))) (look-in ! 32 (sub ! 1 refl (whole !)))) (no-more !)))) (from ! (stop !)) (init ! 18 refl (tt, (tt, (record { fits = gn₀ .0 }, tt)))) $

@@ -39,7 +39,7 @@ use Rattle.advance.proofs.sought_for.Symbol as sought-for-def
 use Rattle.advance.proofs.sought_for.Symbol.{name as #advance·sought-for}
 use Rattle.advance.proofs.sought_for.Met as sought-for-thm
 use Rattle.advance.proofs.gather.asked_of.Symbol as asked-of-def
-use Rattle.advance.proofs.gather.asked_of.Symbol.{name as #advance·asked-of}
+use Rattle.advance.proofs.gather.asked_of.Symbol.{name as #advance·gather·asked-of}
 use Rattle.advance.proofs.gather.asked_of.Met as asked-of-thm
 use Rattle.advance.specs.Parts.{askedOf, askedIn}
 use Rattle.state.specs.declared.Bench.{Bench}
@@ -76,13 +76,13 @@ module _ {M : Type 1} (𝓤 : URA M) (H : Heap 𝓤) (A : Atoms 𝓤) (W : Given
       suffices ! _ (ends-at 𝓤 H A ask.ended stayed (ask.clauses 𝓤 H A mem run) W (((κ, tt), (q, tt), tt, a, at), tt) (val-Asked r) r (tt, (tt, (tt, tt))) (tt, (tt, (tt, tt)))) $ says ! e $
       nothing ! $ move ! (2 ∷ 0 ∷ []) $ join ! $ frame ! $ fjoin ! $ frame ! $ owned ! R-Asked (Is R-Asked) (makes-Asked 𝓤 H A) r _ is $ done !
 
-  module _ (C : Calls 𝓤 H) (Λ : Loops 𝓤 H) (fm : FmC 𝓤 H (W .laws) C) (sought-for-known : Triple 𝓤 (C #advance·sought-for) (SoughtFors 𝓤 H A mem run)) (asked-of-known : Triple 𝓤 (C #advance·asked-of) (AskedOfs 𝓤 H A mem run)) where
+  module _ (C : Calls 𝓤 H) (Λ : Loops 𝓤 H) (fm : FmC 𝓤 H (W .laws) C) (sought-for-known : Triple 𝓤 (C #advance·sought-for) (SoughtFors 𝓤 H A mem run)) (asked-of-known : Triple 𝓤 (C #advance·gather·asked-of) (AskedOfs 𝓤 H A mem run)) where
     walk : Room R n → Is R-Bench bench (vals-Bench bench) → Is R-Event event (vals-Event event) → bench .flight ≤ n → length (bench .replicas) ≡ 7 → ent 𝓤 (onEntry 𝓤 H A ask.signature (κ, tt) (q, tt) a at) (WpFn 𝓤 H C Λ code.function (sliceVal (b, o) n ∷ val-Bench bench ∷ val-Event event ∷ []) Post)
     walk gn gbench gevent h₀ h₁ =
         qed W ((‵ (flft κ q) ⊛ ‵ ftrue) ∷ ‵ (owns (ShrSlice (named 0) κ R ∷ R-Bench ∷ R-Event ∷ []) a at) ∷ []) ∵ enter ! C Λ code.function (sliceVal (b, o) n ∷ val-Bench bench ∷ val-Event event ∷ []) _ $
         alloc1 ! (λ l₀. alloc1 ! (λ l₁. alloc1 ! (λ l₂. alloc1 ! (λ l₃. alloc1 ! (λ l₄. alloc0 ! $ params1 ! $
         pass1 ! (init ! 6 refl (tt, (tt, (record { fits = gn .0 }, tt)))) $ pass1 ! (init ! 4 refl (typed-Bench 𝓤 H A W bench gbench)) $ pass1 ! (init ! 2 refl (typed-Event 𝓤 H A W event gevent)) $ pass0 ! $
-        move ! (11 ∷ 10 ∷ []) $ fsplit ! $ move ! (2 ∷ []) $ split ! $ move ! (2 ∷ 0 ∷ []) $
+        move ! (11 ∷ 10 ∷ []) $ fsplit ! $ move ! (2 ∷ []) $ split ! $ move ! (2 ∷ []) $
         -- [t's slice; the token; true; what the others own; _4 (4); …; _3 (6); …; _2 (8); …; _1 (10); …; _0 (12); …]
         calls-sought-for ! fm mem run sought-for-known b o n ys bench event gbench gevent h₀ (λ P L. and-then ! (load ! (from ! (stop !)) (look ! 10 refl)) (and-then ! (load ! (from ! (stop !)) (look ! 8 refl)) (and-then ! (load ! (from ! (stop !)) (look ! 6 refl)) (no-more !)))) (λ s gs es.
         land ! (from ! (stop !)) (init ! 4 refl (typed-Sought 𝓤 H A W s gs)) $
@@ -93,12 +93,12 @@ module _ {M : Type 1} (𝓤 : URA M) (H : Heap 𝓤) (A : Atoms 𝓤) (W : Given
         keep ! (0 ∷ 1 ∷ 3 ∷ []) $ by ! (exits r gr (er ∙ ap (askedOf bench event) es)))))))))
 
 module _ {M : Type 1} (𝓤 : URA M) (H : Heap 𝓤) (A : Atoms 𝓤) (W : Given 𝓤 H A) (mem : Memory → SProp 𝓤) (run : Routine → Fun 𝓤) where
-  ask-walks : (C : Calls 𝓤 H) (Λ : Loops 𝓤 H) → FmC 𝓤 H (W .laws) C → Triple 𝓤 (C #advance·sought-for) (SoughtFors 𝓤 H A mem run) → Triple 𝓤 (C #advance·asked-of) (AskedOfs 𝓤 H A mem run) → Walks 𝓤 H A ask.ended stayed (WpFn 𝓤 H C Λ code.function) (ask.clauses 𝓤 H A mem run)
+  ask-walks : (C : Calls 𝓤 H) (Λ : Loops 𝓤 H) → FmC 𝓤 H (W .laws) C → Triple 𝓤 (C #advance·sought-for) (SoughtFors 𝓤 H A mem run) → Triple 𝓤 (C #advance·gather·asked-of) (AskedOfs 𝓤 H A mem run) → Walks 𝓤 H A ask.ended stayed (WpFn 𝓤 H C Λ code.function) (ask.clauses 𝓤 H A mem run)
   ask-walks C Λ fm k₀ k₁ = walked 𝓤 H A ask.ended stayed (ask.clauses 𝓤 H A mem run) (WpFn 𝓤 H C Λ code.function) (λ κs. (slice-vals, (vals-Bench, (vals-Event, tt)))) (λ κs. (shr-slice-tells (named 0) (κs .0) R, (tells-Bench, (tells-Event, tt))))
       (λ κs qs bounds a g are. needs 𝓤 (((a .1 .0) .flight ≤ (length (now (a .0)))) × (length ((a .1 .0) .replicas) ≡ 7)) _ (λ l.
       walk 𝓤 H A W mem run (κs .0) (qs .0) (a .0 .ptr .0) (a .0 .ptr .1) (a .0 .name) (a .0 .now) (a .1 .0) (a .1 .1 .0) C Λ fm k₀ k₁ (are .0 .0 .1) (are .1 .0) (are .1 .1 .0) (l .0) (l .1)))
 
-ask-meets : {M : Type 1} (𝓤 : URA M) (H : Heap 𝓤) (A : Atoms 𝓤) → Given 𝓤 H A → (mem : Memory → SProp 𝓤) (run : Routine → Fun 𝓤) (𝓣 : Tables 𝓤 H) → Triple 𝓤 (𝓣 .C #advance·sought-for) (SoughtFors 𝓤 H A mem run) → Triple 𝓤 (𝓣 .C #advance·asked-of) (AskedOfs 𝓤 H A mem run) → Meets 𝓤 H A ask.signature (WpFn 𝓤 H (𝓣 .C) (𝓣 .Λ) code.function) (ask.spec 𝓤 H A mem run)
+ask-meets : {M : Type 1} (𝓤 : URA M) (H : Heap 𝓤) (A : Atoms 𝓤) → Given 𝓤 H A → (mem : Memory → SProp 𝓤) (run : Routine → Fun 𝓤) (𝓣 : Tables 𝓤 H) → Triple 𝓤 (𝓣 .C #advance·sought-for) (SoughtFors 𝓤 H A mem run) → Triple 𝓤 (𝓣 .C #advance·gather·asked-of) (AskedOfs 𝓤 H A mem run) → Meets 𝓤 H A ask.signature (WpFn 𝓤 H (𝓣 .C) (𝓣 .Λ) code.function) (ask.spec 𝓤 H A mem run)
 ask-meets 𝓤 H A W mem run 𝓣 k₀ k₁ = walk-meets 𝓤 H A ask.ended stayed W (goes-none-slice 𝓤 H A W 1 (0 ∷ []) tt (plain (λ _. R)) yes, (goes-none 𝓤 H A W 1 (λ _. R-Bench) yes (λ κs x f. refl), (goes-none 𝓤 H A W 1 (λ _. R-Event) yes (λ κs x f. refl), tt))) (ask.clauses 𝓤 H A mem run)
     (WpFn 𝓤 H (𝓣 .C) (𝓣 .Λ) code.function) (WpFn-mono 𝓤 H (W .laws) 𝓣 code.function) (ask-walks 𝓤 H A W mem run (𝓣 .C) (𝓣 .Λ) (fmOf 𝓤 H (W .laws) 𝓣) k₀ k₁)
 
@@ -109,4 +109,4 @@ ask-spec 𝓤 H 𝓜 𝓖 𝓡 =
     (tables 𝓤 H 𝓜 𝓡 code.env .C) (tables 𝓤 H 𝓜 𝓡 code.env .Λ) #advance·ask code.function (code.unfolded 𝓤 H 𝓜 𝓡)
     (ask-meets 𝓤 H (𝓖 .A) (givenOf 𝓤 H 𝓜 𝓖) (𝓜 .mem) (𝓡 .run) (tablesOf 𝓤 H 𝓜 (tables 𝓤 H 𝓜 𝓡 code.env))
     (cited 𝓤 H (SoughtFors 𝓤 H (𝓖 .A) (𝓜 .mem) (𝓡 .run)) 𝓜 𝓡 code.env #advance·sought-for sought-for-def.routine code.calls-advance·sought-for (sought-for-thm.met 𝓤 H 𝓜 𝓖 𝓡))
-    (cited 𝓤 H (AskedOfs 𝓤 H (𝓖 .A) (𝓜 .mem) (𝓡 .run)) 𝓜 𝓡 code.env #advance·asked-of asked-of-def.routine code.calls-advance·gather·asked-of (asked-of-thm.met 𝓤 H 𝓜 𝓖 𝓡)))
+    (cited 𝓤 H (AskedOfs 𝓤 H (𝓖 .A) (𝓜 .mem) (𝓡 .run)) 𝓜 𝓡 code.env #advance·gather·asked-of asked-of-def.routine code.calls-advance·gather·asked-of (asked-of-thm.met 𝓤 H 𝓜 𝓖 𝓡)))

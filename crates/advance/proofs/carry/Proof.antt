@@ -46,10 +46,10 @@ use Rattle.advance.proofs.lay.Symbol as lay-def
 use Rattle.advance.proofs.lay.Symbol.{name as #advance·lay}
 use Rattle.advance.proofs.lay.Met as lay-thm
 use Rattle.advance.proofs.plans.place_in.Symbol as place-in-def
-use Rattle.advance.proofs.plans.place_in.Symbol.{name as #advance·place-in}
+use Rattle.advance.proofs.plans.place_in.Symbol.{name as #advance·plans·place-in}
 use Rattle.advance.proofs.plans.place_in.Met as place-in-thm
 use Rattle.advance.proofs.plans.row_in.Symbol as row-in-def
-use Rattle.advance.proofs.plans.row_in.Symbol.{name as #advance·row-in}
+use Rattle.advance.proofs.plans.row_in.Symbol.{name as #advance·plans·row-in}
 use Rattle.advance.proofs.plans.row_in.Met as row-in-thm
 use Rattle.tables.proofs.put_row.Symbol as put-row-def
 use Rattle.tables.proofs.put_row.Symbol.{name as #tables·put-row}
@@ -94,13 +94,13 @@ module _ {M : Type 1} (𝓤 : URA M) (H : Heap 𝓤) (A : Atoms 𝓤) (W : Given
   still : (zs : List Message) → length zs ≡ n₀ → Sound w n₀ → Sound w (length zs)
   still zs len h = subst (Sound w) (sym len) h
 
-  module _ (C : Calls 𝓤 H) (Λ : Loops 𝓤 H) (fm : FmC 𝓤 H (W .laws) C) (cut-out-known : Triple 𝓤 (C #advance·cut-out) (CutOuts 𝓤 H A mem run)) (lay-known : Triple 𝓤 (C #advance·lay) (Lays 𝓤 H A mem run)) (place-in-known : Triple 𝓤 (C #advance·place-in) (PlaceIns 𝓤 H A mem run)) (row-in-known : Triple 𝓤 (C #advance·row-in) (RowIns 𝓤 H A mem run)) (put-row-known : Triple 𝓤 (C #tables·put-row) (PutRow 𝓤 H A mem run)) where
+  module _ (C : Calls 𝓤 H) (Λ : Loops 𝓤 H) (fm : FmC 𝓤 H (W .laws) C) (cut-out-known : Triple 𝓤 (C #advance·cut-out) (CutOuts 𝓤 H A mem run)) (lay-known : Triple 𝓤 (C #advance·lay) (Lays 𝓤 H A mem run)) (place-in-known : Triple 𝓤 (C #advance·plans·place-in) (PlaceIns 𝓤 H A mem run)) (row-in-known : Triple 𝓤 (C #advance·plans·row-in) (RowIns 𝓤 H A mem run)) (put-row-known : Triple 𝓤 (C #tables·put-row) (PutRow 𝓤 H A mem run)) where
     walk : Room R n₀ → Room R₂ n₁ → Is R-Work w (vals-Work w) → Sound w n₀ → ent 𝓤 (onEntry 𝓤 H A carry.signature (κ₀, (κ₁, tt)) (q₀, (q₁, tt)) a at) (WpFn 𝓤 H C Λ code.function (sliceVal (b₀, o₀) n₀ ∷ sliceVal (b₁, o₁) n₁ ∷ val-Work w ∷ []) Post)
     walk gn₀ gn₁ gw h₀ =
         qed W ((‵ (flft κ₀ q₀) ⊛ (‵ (flft κ₁ q₁) ⊛ ‵ ftrue)) ∷ ‵ (owns (MutSlice (named 0) κ₀ R ∷ MutSlice (named 1) κ₁ R₂ ∷ R-Work ∷ []) a at) ∷ []) ∵ enter ! C Λ code.function (sliceVal (b₀, o₀) n₀ ∷ sliceVal (b₁, o₁) n₁ ∷ val-Work w ∷ []) _ $
         alloc1 ! (λ l₀. alloc1 ! (λ l₁. alloc1 ! (λ l₂. alloc1 ! (λ l₃. alloc1 ! (λ l₄. alloc1 ! (λ l₅. alloc1 ! (λ l₆. alloc1 ! (λ l₇. alloc1 ! (λ l₈. alloc1 ! (λ l₉. alloc1 ! (λ l₁₀. alloc1 ! (λ l₁₁. alloc1 ! (λ l₁₂. alloc0 ! $ params1 ! $
         pass1 ! (init ! 22 refl (tt, (tt, (record { fits = gn₀ .0 }, tt)))) $ pass1 ! (init ! 20 refl (tt, (tt, (record { fits = gn₁ .0 }, tt)))) $ pass1 ! (init ! 18 refl (typed-Work 𝓤 H A W w gw)) $ pass0 ! $
-        move ! (27 ∷ 26 ∷ []) $ fsplit ! $ move ! (1 ∷ []) $ fsplit ! $ move ! (3 ∷ []) $ split ! $ move ! (1 ∷ []) $ split ! $ move ! (5 ∷ 2 ∷ 3 ∷ 0 ∷ 1 ∷ 4 ∷ []) $
+        move ! (27 ∷ 26 ∷ []) $ fsplit ! $ move ! (1 ∷ []) $ fsplit ! $ move ! (3 ∷ []) $ split ! $ move ! (1 ∷ []) $ split ! $ move ! (5 ∷ 2 ∷ 3 ∷ []) $
         -- [the first slice; its token; the second; its token; true; what the others own; _12 (6); …; _11 (8); …; _10 (10); …; _9 (12); …; _8 (14); …; _7 (16); …; _6 (18); …; _5 (20); …; _4 (22); …; _3 (24); …; _2 (26); …; _1 (28); …; _0 (30); …]
         assigns ! (addr ! (from ! (fld ! refl (hop ! (look-in ! 28 (sub ! 0 refl (whole !))) (stop !))))) (from ! (stop !)) (init ! 16 refl (tt, tt)) $
         assigns ! (agg ! (and-then ! (load ! (from ! (stop !)) (look ! 16 refl)) (and-then ! (load ! (from ! (fld ! refl (stop !))) (look-in ! 28 (sub ! 1 refl (whole !)))) (no-more !)))) (from ! (stop !)) (init ! 14 refl (tt, (tt, (record { fits = gn₀ .0 }, tt)))) $
@@ -124,12 +124,12 @@ module _ {M : Type 1} (𝓤 : URA M) (H : Heap 𝓤) (A : Atoms 𝓤) (W : Given
         keep ! (0 ∷ 1 ∷ 2 ∷ 3 ∷ 5 ∷ []) $ by ! (exits ms (set ys₁ i line) len₀ len₁ (e₀ ∙ ap (laidAt (w .from) (copies (w .first) (w .count))) e) (ap (λ (j : ℕ). set ys₁ j line) ei ∙ ap (set ys₁ (w .place)) el))))))))))))))))))))
 
 module _ {M : Type 1} (𝓤 : URA M) (H : Heap 𝓤) (A : Atoms 𝓤) (W : Given 𝓤 H A) (mem : Memory → SProp 𝓤) (run : Routine → Fun 𝓤) where
-  carry-walks : (C : Calls 𝓤 H) (Λ : Loops 𝓤 H) → FmC 𝓤 H (W .laws) C → Triple 𝓤 (C #advance·cut-out) (CutOuts 𝓤 H A mem run) → Triple 𝓤 (C #advance·lay) (Lays 𝓤 H A mem run) → Triple 𝓤 (C #advance·place-in) (PlaceIns 𝓤 H A mem run) → Triple 𝓤 (C #advance·row-in) (RowIns 𝓤 H A mem run) → Triple 𝓤 (C #tables·put-row) (PutRow 𝓤 H A mem run) → Walks 𝓤 H A carry.ended stayed (WpFn 𝓤 H C Λ code.function) (carry.clauses 𝓤 H A mem run)
+  carry-walks : (C : Calls 𝓤 H) (Λ : Loops 𝓤 H) → FmC 𝓤 H (W .laws) C → Triple 𝓤 (C #advance·cut-out) (CutOuts 𝓤 H A mem run) → Triple 𝓤 (C #advance·lay) (Lays 𝓤 H A mem run) → Triple 𝓤 (C #advance·plans·place-in) (PlaceIns 𝓤 H A mem run) → Triple 𝓤 (C #advance·plans·row-in) (RowIns 𝓤 H A mem run) → Triple 𝓤 (C #tables·put-row) (PutRow 𝓤 H A mem run) → Walks 𝓤 H A carry.ended stayed (WpFn 𝓤 H C Λ code.function) (carry.clauses 𝓤 H A mem run)
   carry-walks C Λ fm k₀ k₁ k₂ k₃ k₄ = walked 𝓤 H A carry.ended stayed (carry.clauses 𝓤 H A mem run) (WpFn 𝓤 H C Λ code.function) (λ κs. (slice-vals, (slice-vals, (vals-Work, tt)))) (λ κs. (mut-slice-tells (named 0) (κs .0) R, (mut-slice-tells (named 1) (κs .1 .0) R₂, (tells-Work, tt))))
       (λ κs qs bounds a g are. needs 𝓤 (Sound (a .1 .1 .0) (length (now (a .0)))) _ (λ l.
       walk 𝓤 H A W mem run (κs .0) (κs .1 .0) (qs .0) (qs .1 .0) (a .0 .ptr .0) (a .0 .ptr .1) (a .1 .0 .ptr .0) (a .1 .0 .ptr .1) (a .0 .name) (a .1 .0 .name) (a .0 .now) (a .1 .0 .now) (a .1 .1 .0) C Λ fm k₀ k₁ k₂ k₃ k₄ (are .0 .0 .1) (are .1 .0 .0 .1) (are .1 .1 .0) (l)))
 
-carry-meets : {M : Type 1} (𝓤 : URA M) (H : Heap 𝓤) (A : Atoms 𝓤) → Given 𝓤 H A → (mem : Memory → SProp 𝓤) (run : Routine → Fun 𝓤) (𝓣 : Tables 𝓤 H) → Triple 𝓤 (𝓣 .C #advance·cut-out) (CutOuts 𝓤 H A mem run) → Triple 𝓤 (𝓣 .C #advance·lay) (Lays 𝓤 H A mem run) → Triple 𝓤 (𝓣 .C #advance·place-in) (PlaceIns 𝓤 H A mem run) → Triple 𝓤 (𝓣 .C #advance·row-in) (RowIns 𝓤 H A mem run) → Triple 𝓤 (𝓣 .C #tables·put-row) (PutRow 𝓤 H A mem run) → Meets 𝓤 H A carry.signature (WpFn 𝓤 H (𝓣 .C) (𝓣 .Λ) code.function) (carry.spec 𝓤 H A mem run)
+carry-meets : {M : Type 1} (𝓤 : URA M) (H : Heap 𝓤) (A : Atoms 𝓤) → Given 𝓤 H A → (mem : Memory → SProp 𝓤) (run : Routine → Fun 𝓤) (𝓣 : Tables 𝓤 H) → Triple 𝓤 (𝓣 .C #advance·cut-out) (CutOuts 𝓤 H A mem run) → Triple 𝓤 (𝓣 .C #advance·lay) (Lays 𝓤 H A mem run) → Triple 𝓤 (𝓣 .C #advance·plans·place-in) (PlaceIns 𝓤 H A mem run) → Triple 𝓤 (𝓣 .C #advance·plans·row-in) (RowIns 𝓤 H A mem run) → Triple 𝓤 (𝓣 .C #tables·put-row) (PutRow 𝓤 H A mem run) → Meets 𝓤 H A carry.signature (WpFn 𝓤 H (𝓣 .C) (𝓣 .Λ) code.function) (carry.spec 𝓤 H A mem run)
 carry-meets 𝓤 H A W mem run 𝓣 k₀ k₁ k₂ k₃ k₄ = walk-meets 𝓤 H A carry.ended stayed W (goes-slice 𝓤 H A W 2 0 tt (plain (λ _. R)), (goes-slice 𝓤 H A W 2 1 tt (plain (λ _. R₂)), (goes-none 𝓤 H A W 2 (λ _. R-Work) yes (λ κs x f. refl), tt))) (carry.clauses 𝓤 H A mem run)
     (WpFn 𝓤 H (𝓣 .C) (𝓣 .Λ) code.function) (WpFn-mono 𝓤 H (W .laws) 𝓣 code.function) (carry-walks 𝓤 H A W mem run (𝓣 .C) (𝓣 .Λ) (fmOf 𝓤 H (W .laws) 𝓣) k₀ k₁ k₂ k₃ k₄)
 
@@ -141,6 +141,6 @@ carry-spec 𝓤 H 𝓜 𝓖 𝓡 =
     (carry-meets 𝓤 H (𝓖 .A) (givenOf 𝓤 H 𝓜 𝓖) (𝓜 .mem) (𝓡 .run) (tablesOf 𝓤 H 𝓜 (tables 𝓤 H 𝓜 𝓡 code.env))
     (cited 𝓤 H (CutOuts 𝓤 H (𝓖 .A) (𝓜 .mem) (𝓡 .run)) 𝓜 𝓡 code.env #advance·cut-out cut-out-def.routine code.calls-advance·cut-out (cut-out-thm.met 𝓤 H 𝓜 𝓖 𝓡))
     (cited 𝓤 H (Lays 𝓤 H (𝓖 .A) (𝓜 .mem) (𝓡 .run)) 𝓜 𝓡 code.env #advance·lay lay-def.routine code.calls-advance·lay (lay-thm.met 𝓤 H 𝓜 𝓖 𝓡))
-    (cited 𝓤 H (PlaceIns 𝓤 H (𝓖 .A) (𝓜 .mem) (𝓡 .run)) 𝓜 𝓡 code.env #advance·place-in place-in-def.routine code.calls-advance·plans·place-in (place-in-thm.met 𝓤 H 𝓜 𝓖 𝓡))
-    (cited 𝓤 H (RowIns 𝓤 H (𝓖 .A) (𝓜 .mem) (𝓡 .run)) 𝓜 𝓡 code.env #advance·row-in row-in-def.routine code.calls-advance·plans·row-in (row-in-thm.met 𝓤 H 𝓜 𝓖 𝓡))
+    (cited 𝓤 H (PlaceIns 𝓤 H (𝓖 .A) (𝓜 .mem) (𝓡 .run)) 𝓜 𝓡 code.env #advance·plans·place-in place-in-def.routine code.calls-advance·plans·place-in (place-in-thm.met 𝓤 H 𝓜 𝓖 𝓡))
+    (cited 𝓤 H (RowIns 𝓤 H (𝓖 .A) (𝓜 .mem) (𝓡 .run)) 𝓜 𝓡 code.env #advance·plans·row-in row-in-def.routine code.calls-advance·plans·row-in (row-in-thm.met 𝓤 H 𝓜 𝓖 𝓡))
     (cited 𝓤 H (PutRow 𝓤 H (𝓖 .A) (𝓜 .mem) (𝓡 .run)) 𝓜 𝓡 code.env #tables·put-row put-row-def.routine code.calls-tables·put-row (put-row-thm.met 𝓤 H 𝓜 𝓖 𝓡)))

@@ -43,7 +43,7 @@ use Rattle.advance.proofs.carry.Symbol as carry-def
 use Rattle.advance.proofs.carry.Symbol.{name as #advance·carry}
 use Rattle.advance.proofs.carry.Met as carry-thm
 use Rattle.advance.proofs.plans.stepped_in.Symbol as stepped-in-def
-use Rattle.advance.proofs.plans.stepped_in.Symbol.{name as #advance·stepped-in}
+use Rattle.advance.proofs.plans.stepped_in.Symbol.{name as #advance·plans·stepped-in}
 use Rattle.advance.proofs.plans.stepped_in.Met as stepped-in-thm
 use Rattle.advance.specs.Parts.{Sound, carriedMessages, carriedRows}
 use Rattle.state.specs.declared.Stepped.{Stepped}
@@ -83,13 +83,13 @@ module _ {M : Type 1} (𝓤 : URA M) (H : Heap 𝓤) (A : Atoms 𝓤) (W : Given
       suffices ! _ (ends-at 𝓤 H A conclude.ended stayed (conclude.clauses 𝓤 H A mem run) W (((κ₀, (κ₁, tt)), (q₀, (q₁, tt)), tt, a, at), tt) (val-Stepped r) r (ms, (rs, (tt, tt))) (len₀, (len₁, (tt, tt)))) $ says ! (er, (e₀, e₁)) $
       nothing ! $ move ! (4 ∷ 0 ∷ []) $ join ! $ move ! (2 ∷ 0 ∷ []) $ join ! $ frame ! $ move ! (1 ∷ 2 ∷ []) $ fjoin ! $ move ! (1 ∷ 0 ∷ []) $ fjoin ! $ frame ! $ owned ! R-Stepped (Is R-Stepped) (makes-Stepped 𝓤 H A) r _ is $ done !
 
-  module _ (C : Calls 𝓤 H) (Λ : Loops 𝓤 H) (fm : FmC 𝓤 H (W .laws) C) (carry-known : Triple 𝓤 (C #advance·carry) (Carrys 𝓤 H A mem run)) (stepped-in-known : Triple 𝓤 (C #advance·stepped-in) (SteppedIns 𝓤 H A mem run)) where
+  module _ (C : Calls 𝓤 H) (Λ : Loops 𝓤 H) (fm : FmC 𝓤 H (W .laws) C) (carry-known : Triple 𝓤 (C #advance·carry) (Carrys 𝓤 H A mem run)) (stepped-in-known : Triple 𝓤 (C #advance·plans·stepped-in) (SteppedIns 𝓤 H A mem run)) where
     walk : Room R n₀ → Room R₂ n₁ → Is R-Work w (vals-Work w) → Sound w n₀ → ent 𝓤 (onEntry 𝓤 H A conclude.signature (κ₀, (κ₁, tt)) (q₀, (q₁, tt)) a at) (WpFn 𝓤 H C Λ code.function (sliceVal (b₀, o₀) n₀ ∷ sliceVal (b₁, o₁) n₁ ∷ val-Work w ∷ []) Post)
     walk gn₀ gn₁ gw h₀ =
         qed W ((‵ (flft κ₀ q₀) ⊛ (‵ (flft κ₁ q₁) ⊛ ‵ ftrue)) ∷ ‵ (owns (MutSlice (named 0) κ₀ R ∷ MutSlice (named 1) κ₁ R₂ ∷ R-Work ∷ []) a at) ∷ []) ∵ enter ! C Λ code.function (sliceVal (b₀, o₀) n₀ ∷ sliceVal (b₁, o₁) n₁ ∷ val-Work w ∷ []) _ $
         alloc1 ! (λ l₀. alloc1 ! (λ l₁. alloc1 ! (λ l₂. alloc1 ! (λ l₃. alloc1 ! (λ l₄. alloc1 ! (λ l₅. alloc1 ! (λ l₆. alloc1 ! (λ l₇. alloc1 ! (λ l₈. alloc0 ! $ params1 ! $
         pass1 ! (init ! 14 refl (tt, (tt, (record { fits = gn₀ .0 }, tt)))) $ pass1 ! (init ! 12 refl (tt, (tt, (record { fits = gn₁ .0 }, tt)))) $ pass1 ! (init ! 10 refl (typed-Work 𝓤 H A W w gw)) $ pass0 ! $
-        move ! (19 ∷ 18 ∷ []) $ fsplit ! $ move ! (1 ∷ []) $ fsplit ! $ move ! (3 ∷ []) $ split ! $ move ! (1 ∷ []) $ split ! $ move ! (5 ∷ 2 ∷ 3 ∷ 0 ∷ 1 ∷ 4 ∷ []) $
+        move ! (19 ∷ 18 ∷ []) $ fsplit ! $ move ! (1 ∷ []) $ fsplit ! $ move ! (3 ∷ []) $ split ! $ move ! (1 ∷ []) $ split ! $ move ! (5 ∷ 2 ∷ 3 ∷ []) $
         -- [the first slice; its token; the second; its token; true; what the others own; _8 (6); …; _7 (8); …; _6 (10); …; _5 (12); …; _4 (14); …; _3 (16); …; _2 (18); …; _1 (20); …; _0 (22); …]
         assigns ! (addr ! (from ! (fld ! refl (hop ! (look-in ! 20 (sub ! 0 refl (whole !))) (stop !))))) (from ! (stop !)) (init ! 12 refl (tt, tt)) $
         assigns ! (agg ! (and-then ! (load ! (from ! (stop !)) (look ! 12 refl)) (and-then ! (load ! (from ! (fld ! refl (stop !))) (look-in ! 20 (sub ! 1 refl (whole !)))) (no-more !)))) (from ! (stop !)) (init ! 10 refl (tt, (tt, (record { fits = gn₀ .0 }, tt)))) $
@@ -104,12 +104,12 @@ module _ {M : Type 1} (𝓤 : URA M) (H : Heap 𝓤) (A : Atoms 𝓤) (W : Given
         keep ! (0 ∷ 1 ∷ 2 ∷ 3 ∷ 5 ∷ []) $ by ! (exits r gr ms rs len₀ len₁ er e₀ e₁))))))))))))
 
 module _ {M : Type 1} (𝓤 : URA M) (H : Heap 𝓤) (A : Atoms 𝓤) (W : Given 𝓤 H A) (mem : Memory → SProp 𝓤) (run : Routine → Fun 𝓤) where
-  conclude-walks : (C : Calls 𝓤 H) (Λ : Loops 𝓤 H) → FmC 𝓤 H (W .laws) C → Triple 𝓤 (C #advance·carry) (Carrys 𝓤 H A mem run) → Triple 𝓤 (C #advance·stepped-in) (SteppedIns 𝓤 H A mem run) → Walks 𝓤 H A conclude.ended stayed (WpFn 𝓤 H C Λ code.function) (conclude.clauses 𝓤 H A mem run)
+  conclude-walks : (C : Calls 𝓤 H) (Λ : Loops 𝓤 H) → FmC 𝓤 H (W .laws) C → Triple 𝓤 (C #advance·carry) (Carrys 𝓤 H A mem run) → Triple 𝓤 (C #advance·plans·stepped-in) (SteppedIns 𝓤 H A mem run) → Walks 𝓤 H A conclude.ended stayed (WpFn 𝓤 H C Λ code.function) (conclude.clauses 𝓤 H A mem run)
   conclude-walks C Λ fm k₀ k₁ = walked 𝓤 H A conclude.ended stayed (conclude.clauses 𝓤 H A mem run) (WpFn 𝓤 H C Λ code.function) (λ κs. (slice-vals, (slice-vals, (vals-Work, tt)))) (λ κs. (mut-slice-tells (named 0) (κs .0) R, (mut-slice-tells (named 1) (κs .1 .0) R₂, (tells-Work, tt))))
       (λ κs qs bounds a g are. needs 𝓤 (Sound (a .1 .1 .0) (length (now (a .0)))) _ (λ l.
       walk 𝓤 H A W mem run (κs .0) (κs .1 .0) (qs .0) (qs .1 .0) (a .0 .ptr .0) (a .0 .ptr .1) (a .1 .0 .ptr .0) (a .1 .0 .ptr .1) (a .0 .name) (a .1 .0 .name) (a .0 .now) (a .1 .0 .now) (a .1 .1 .0) C Λ fm k₀ k₁ (are .0 .0 .1) (are .1 .0 .0 .1) (are .1 .1 .0) (l)))
 
-conclude-meets : {M : Type 1} (𝓤 : URA M) (H : Heap 𝓤) (A : Atoms 𝓤) → Given 𝓤 H A → (mem : Memory → SProp 𝓤) (run : Routine → Fun 𝓤) (𝓣 : Tables 𝓤 H) → Triple 𝓤 (𝓣 .C #advance·carry) (Carrys 𝓤 H A mem run) → Triple 𝓤 (𝓣 .C #advance·stepped-in) (SteppedIns 𝓤 H A mem run) → Meets 𝓤 H A conclude.signature (WpFn 𝓤 H (𝓣 .C) (𝓣 .Λ) code.function) (conclude.spec 𝓤 H A mem run)
+conclude-meets : {M : Type 1} (𝓤 : URA M) (H : Heap 𝓤) (A : Atoms 𝓤) → Given 𝓤 H A → (mem : Memory → SProp 𝓤) (run : Routine → Fun 𝓤) (𝓣 : Tables 𝓤 H) → Triple 𝓤 (𝓣 .C #advance·carry) (Carrys 𝓤 H A mem run) → Triple 𝓤 (𝓣 .C #advance·plans·stepped-in) (SteppedIns 𝓤 H A mem run) → Meets 𝓤 H A conclude.signature (WpFn 𝓤 H (𝓣 .C) (𝓣 .Λ) code.function) (conclude.spec 𝓤 H A mem run)
 conclude-meets 𝓤 H A W mem run 𝓣 k₀ k₁ = walk-meets 𝓤 H A conclude.ended stayed W (goes-slice 𝓤 H A W 2 0 tt (plain (λ _. R)), (goes-slice 𝓤 H A W 2 1 tt (plain (λ _. R₂)), (goes-none 𝓤 H A W 2 (λ _. R-Work) yes (λ κs x f. refl), tt))) (conclude.clauses 𝓤 H A mem run)
     (WpFn 𝓤 H (𝓣 .C) (𝓣 .Λ) code.function) (WpFn-mono 𝓤 H (W .laws) 𝓣 code.function) (conclude-walks 𝓤 H A W mem run (𝓣 .C) (𝓣 .Λ) (fmOf 𝓤 H (W .laws) 𝓣) k₀ k₁)
 
@@ -120,4 +120,4 @@ conclude-spec 𝓤 H 𝓜 𝓖 𝓡 =
     (tables 𝓤 H 𝓜 𝓡 code.env .C) (tables 𝓤 H 𝓜 𝓡 code.env .Λ) #advance·conclude code.function (code.unfolded 𝓤 H 𝓜 𝓡)
     (conclude-meets 𝓤 H (𝓖 .A) (givenOf 𝓤 H 𝓜 𝓖) (𝓜 .mem) (𝓡 .run) (tablesOf 𝓤 H 𝓜 (tables 𝓤 H 𝓜 𝓡 code.env))
     (cited 𝓤 H (Carrys 𝓤 H (𝓖 .A) (𝓜 .mem) (𝓡 .run)) 𝓜 𝓡 code.env #advance·carry carry-def.routine code.calls-advance·carry (carry-thm.met 𝓤 H 𝓜 𝓖 𝓡))
-    (cited 𝓤 H (SteppedIns 𝓤 H (𝓖 .A) (𝓜 .mem) (𝓡 .run)) 𝓜 𝓡 code.env #advance·stepped-in stepped-in-def.routine code.calls-advance·plans·stepped-in (stepped-in-thm.met 𝓤 H 𝓜 𝓖 𝓡)))
+    (cited 𝓤 H (SteppedIns 𝓤 H (𝓖 .A) (𝓜 .mem) (𝓡 .run)) 𝓜 𝓡 code.env #advance·plans·stepped-in stepped-in-def.routine code.calls-advance·plans·stepped-in (stepped-in-thm.met 𝓤 H 𝓜 𝓖 𝓡)))

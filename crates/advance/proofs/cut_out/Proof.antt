@@ -37,13 +37,13 @@ use Rattle.tables.proofs.Messages.{R}
 use Rattle.tables.proofs.Calls.{Mut, slice}
 use Rattle.advance.proofs.Callees.{CutIns, AtIns, FlightIns, DropMessages, calls-cut-in, calls-at-in, calls-flight-in, calls-drop-message}
 use Rattle.advance.proofs.plans.cut_in.Symbol as cut-in-def
-use Rattle.advance.proofs.plans.cut_in.Symbol.{name as #advance·cut-in}
+use Rattle.advance.proofs.plans.cut_in.Symbol.{name as #advance·plans·cut-in}
 use Rattle.advance.proofs.plans.cut_in.Met as cut-in-thm
 use Rattle.advance.proofs.plans.at_in.Symbol as at-in-def
-use Rattle.advance.proofs.plans.at_in.Symbol.{name as #advance·at-in}
+use Rattle.advance.proofs.plans.at_in.Symbol.{name as #advance·plans·at-in}
 use Rattle.advance.proofs.plans.at_in.Met as at-in-thm
 use Rattle.advance.proofs.plans.flight_in.Symbol as flight-in-def
-use Rattle.advance.proofs.plans.flight_in.Symbol.{name as #advance·flight-in}
+use Rattle.advance.proofs.plans.flight_in.Symbol.{name as #advance·plans·flight-in}
 use Rattle.advance.proofs.plans.flight_in.Met as flight-in-thm
 use Rattle.advance.proofs.drop_message.Symbol as drop-message-def
 use Rattle.advance.proofs.drop_message.Symbol.{name as #advance·drop-message}
@@ -87,13 +87,13 @@ module _ {M : Type 1} (𝓤 : URA M) (H : Heap 𝓤) (A : Atoms 𝓤) (W : Given
   told : (c : Bool) (i z : ℕ) → c ≡ w .cut → i ≡ w .at → z ≡ w .flight → droppedIf c i z ys ≡ droppedIf (w .cut) (w .at) (w .flight) ys
   told c i z ec ei ez = ap (λ (t : Bool). droppedIf t i z ys) ec ∙ ap (λ (j : ℕ). droppedIf (w .cut) j z ys) ei ∙ ap (λ (k : ℕ). droppedIf (w .cut) (w .at) k ys) ez
 
-  module _ (C : Calls 𝓤 H) (Λ : Loops 𝓤 H) (fm : FmC 𝓤 H (W .laws) C) (cut-in-known : Triple 𝓤 (C #advance·cut-in) (CutIns 𝓤 H A mem run)) (at-in-known : Triple 𝓤 (C #advance·at-in) (AtIns 𝓤 H A mem run)) (flight-in-known : Triple 𝓤 (C #advance·flight-in) (FlightIns 𝓤 H A mem run)) (drop-message-known : Triple 𝓤 (C #advance·drop-message) (DropMessages 𝓤 H A mem run)) where
+  module _ (C : Calls 𝓤 H) (Λ : Loops 𝓤 H) (fm : FmC 𝓤 H (W .laws) C) (cut-in-known : Triple 𝓤 (C #advance·plans·cut-in) (CutIns 𝓤 H A mem run)) (at-in-known : Triple 𝓤 (C #advance·plans·at-in) (AtIns 𝓤 H A mem run)) (flight-in-known : Triple 𝓤 (C #advance·plans·flight-in) (FlightIns 𝓤 H A mem run)) (drop-message-known : Triple 𝓤 (C #advance·drop-message) (DropMessages 𝓤 H A mem run)) where
     walk : Room R n → Is R-Work w (vals-Work w) → Sound w n → ent 𝓤 (onEntry 𝓤 H A cut-out.signature (κ, tt) (q, tt) a at) (WpFn 𝓤 H C Λ code.function (sliceVal (b, o) n ∷ val-Work w ∷ []) Post)
     walk gn gw h₀ =
         qed W ((‵ (flft κ q) ⊛ ‵ ftrue) ∷ ‵ (owns (MutSlice (named 0) κ R ∷ R-Work ∷ []) a at) ∷ []) ∵ enter ! C Λ code.function (sliceVal (b, o) n ∷ val-Work w ∷ []) _ $
         alloc1 ! (λ l₀. alloc1 ! (λ l₁. alloc1 ! (λ l₂. alloc1 ! (λ l₃. alloc1 ! (λ l₄. alloc1 ! (λ l₅. alloc1 ! (λ l₆. alloc1 ! (λ l₇. alloc1 ! (λ l₈. alloc0 ! $ params1 ! $
         pass1 ! (init ! 14 refl (tt, (tt, (record { fits = gn .0 }, tt)))) $ pass1 ! (init ! 12 refl (typed-Work 𝓤 H A W w gw)) $ pass0 ! $
-        move ! (19 ∷ 18 ∷ []) $ fsplit ! $ move ! (2 ∷ []) $ split ! $ move ! (2 ∷ 0 ∷ []) $
+        move ! (19 ∷ 18 ∷ []) $ fsplit ! $ move ! (2 ∷ []) $ split ! $ move ! (2 ∷ []) $
         -- [t's slice; the token; true; what the others own; _8 (4); …; _7 (6); …; _6 (8); …; _5 (10); …; _4 (12); …; _3 (14); …; _2 (16); …; _1 (18); …; _0 (20); …]
         calls-cut-in ! fm mem run cut-in-known w gw (λ P. and-then ! (load ! (from ! (stop !)) (look ! 17 refl)) (no-more !)) (λ c ec.
         land ! (from ! (stop !)) (init ! 14 refl (tt, tt)) $
@@ -111,12 +111,12 @@ module _ {M : Type 1} (𝓤 : URA M) (H : Heap 𝓤) (A : Atoms 𝓤) (W : Given
         keep ! (0 ∷ 1 ∷ 3 ∷ []) $ by ! (exits zs len (e ∙ told c i z ec ei ez)))))))))))))))
 
 module _ {M : Type 1} (𝓤 : URA M) (H : Heap 𝓤) (A : Atoms 𝓤) (W : Given 𝓤 H A) (mem : Memory → SProp 𝓤) (run : Routine → Fun 𝓤) where
-  cut-out-walks : (C : Calls 𝓤 H) (Λ : Loops 𝓤 H) → FmC 𝓤 H (W .laws) C → Triple 𝓤 (C #advance·cut-in) (CutIns 𝓤 H A mem run) → Triple 𝓤 (C #advance·at-in) (AtIns 𝓤 H A mem run) → Triple 𝓤 (C #advance·flight-in) (FlightIns 𝓤 H A mem run) → Triple 𝓤 (C #advance·drop-message) (DropMessages 𝓤 H A mem run) → Walks 𝓤 H A cut-out.ended stayed (WpFn 𝓤 H C Λ code.function) (cut-out.clauses 𝓤 H A mem run)
+  cut-out-walks : (C : Calls 𝓤 H) (Λ : Loops 𝓤 H) → FmC 𝓤 H (W .laws) C → Triple 𝓤 (C #advance·plans·cut-in) (CutIns 𝓤 H A mem run) → Triple 𝓤 (C #advance·plans·at-in) (AtIns 𝓤 H A mem run) → Triple 𝓤 (C #advance·plans·flight-in) (FlightIns 𝓤 H A mem run) → Triple 𝓤 (C #advance·drop-message) (DropMessages 𝓤 H A mem run) → Walks 𝓤 H A cut-out.ended stayed (WpFn 𝓤 H C Λ code.function) (cut-out.clauses 𝓤 H A mem run)
   cut-out-walks C Λ fm k₀ k₁ k₂ k₃ = walked 𝓤 H A cut-out.ended stayed (cut-out.clauses 𝓤 H A mem run) (WpFn 𝓤 H C Λ code.function) (λ κs. (slice-vals, (vals-Work, tt))) (λ κs. (mut-slice-tells (named 0) (κs .0) R, (tells-Work, tt)))
       (λ κs qs bounds a g are. needs 𝓤 (Sound (a .1 .0) (length (now (a .0)))) _ (λ l.
       walk 𝓤 H A W mem run (κs .0) (qs .0) (a .0 .ptr .0) (a .0 .ptr .1) (a .0 .name) (a .0 .now) (a .1 .0) C Λ fm k₀ k₁ k₂ k₃ (are .0 .0 .1) (are .1 .0) (l)))
 
-cut-out-meets : {M : Type 1} (𝓤 : URA M) (H : Heap 𝓤) (A : Atoms 𝓤) → Given 𝓤 H A → (mem : Memory → SProp 𝓤) (run : Routine → Fun 𝓤) (𝓣 : Tables 𝓤 H) → Triple 𝓤 (𝓣 .C #advance·cut-in) (CutIns 𝓤 H A mem run) → Triple 𝓤 (𝓣 .C #advance·at-in) (AtIns 𝓤 H A mem run) → Triple 𝓤 (𝓣 .C #advance·flight-in) (FlightIns 𝓤 H A mem run) → Triple 𝓤 (𝓣 .C #advance·drop-message) (DropMessages 𝓤 H A mem run) → Meets 𝓤 H A cut-out.signature (WpFn 𝓤 H (𝓣 .C) (𝓣 .Λ) code.function) (cut-out.spec 𝓤 H A mem run)
+cut-out-meets : {M : Type 1} (𝓤 : URA M) (H : Heap 𝓤) (A : Atoms 𝓤) → Given 𝓤 H A → (mem : Memory → SProp 𝓤) (run : Routine → Fun 𝓤) (𝓣 : Tables 𝓤 H) → Triple 𝓤 (𝓣 .C #advance·plans·cut-in) (CutIns 𝓤 H A mem run) → Triple 𝓤 (𝓣 .C #advance·plans·at-in) (AtIns 𝓤 H A mem run) → Triple 𝓤 (𝓣 .C #advance·plans·flight-in) (FlightIns 𝓤 H A mem run) → Triple 𝓤 (𝓣 .C #advance·drop-message) (DropMessages 𝓤 H A mem run) → Meets 𝓤 H A cut-out.signature (WpFn 𝓤 H (𝓣 .C) (𝓣 .Λ) code.function) (cut-out.spec 𝓤 H A mem run)
 cut-out-meets 𝓤 H A W mem run 𝓣 k₀ k₁ k₂ k₃ = walk-meets 𝓤 H A cut-out.ended stayed W (goes-slice 𝓤 H A W 1 0 tt (plain (λ _. R)), (goes-none 𝓤 H A W 1 (λ _. R-Work) yes (λ κs x f. refl), tt)) (cut-out.clauses 𝓤 H A mem run)
     (WpFn 𝓤 H (𝓣 .C) (𝓣 .Λ) code.function) (WpFn-mono 𝓤 H (W .laws) 𝓣 code.function) (cut-out-walks 𝓤 H A W mem run (𝓣 .C) (𝓣 .Λ) (fmOf 𝓤 H (W .laws) 𝓣) k₀ k₁ k₂ k₃)
 
@@ -126,7 +126,7 @@ cut-out-spec 𝓤 H 𝓜 𝓖 𝓡 =
     entered 𝓤 H (tripleOf 𝓤 H (𝓖 .A) cut-out.signature (cut-out.spec 𝓤 H (𝓖 .A) (𝓜 .mem) (𝓡 .run)))
     (tables 𝓤 H 𝓜 𝓡 code.env .C) (tables 𝓤 H 𝓜 𝓡 code.env .Λ) #advance·cut-out code.function (code.unfolded 𝓤 H 𝓜 𝓡)
     (cut-out-meets 𝓤 H (𝓖 .A) (givenOf 𝓤 H 𝓜 𝓖) (𝓜 .mem) (𝓡 .run) (tablesOf 𝓤 H 𝓜 (tables 𝓤 H 𝓜 𝓡 code.env))
-    (cited 𝓤 H (CutIns 𝓤 H (𝓖 .A) (𝓜 .mem) (𝓡 .run)) 𝓜 𝓡 code.env #advance·cut-in cut-in-def.routine code.calls-advance·plans·cut-in (cut-in-thm.met 𝓤 H 𝓜 𝓖 𝓡))
-    (cited 𝓤 H (AtIns 𝓤 H (𝓖 .A) (𝓜 .mem) (𝓡 .run)) 𝓜 𝓡 code.env #advance·at-in at-in-def.routine code.calls-advance·plans·at-in (at-in-thm.met 𝓤 H 𝓜 𝓖 𝓡))
-    (cited 𝓤 H (FlightIns 𝓤 H (𝓖 .A) (𝓜 .mem) (𝓡 .run)) 𝓜 𝓡 code.env #advance·flight-in flight-in-def.routine code.calls-advance·plans·flight-in (flight-in-thm.met 𝓤 H 𝓜 𝓖 𝓡))
+    (cited 𝓤 H (CutIns 𝓤 H (𝓖 .A) (𝓜 .mem) (𝓡 .run)) 𝓜 𝓡 code.env #advance·plans·cut-in cut-in-def.routine code.calls-advance·plans·cut-in (cut-in-thm.met 𝓤 H 𝓜 𝓖 𝓡))
+    (cited 𝓤 H (AtIns 𝓤 H (𝓖 .A) (𝓜 .mem) (𝓡 .run)) 𝓜 𝓡 code.env #advance·plans·at-in at-in-def.routine code.calls-advance·plans·at-in (at-in-thm.met 𝓤 H 𝓜 𝓖 𝓡))
+    (cited 𝓤 H (FlightIns 𝓤 H (𝓖 .A) (𝓜 .mem) (𝓡 .run)) 𝓜 𝓡 code.env #advance·plans·flight-in flight-in-def.routine code.calls-advance·plans·flight-in (flight-in-thm.met 𝓤 H 𝓜 𝓖 𝓡))
     (cited 𝓤 H (DropMessages 𝓤 H (𝓖 .A) (𝓜 .mem) (𝓡 .run)) 𝓜 𝓡 code.env #advance·drop-message drop-message-def.routine code.calls-advance·drop-message (drop-message-thm.met 𝓤 H 𝓜 𝓖 𝓡)))

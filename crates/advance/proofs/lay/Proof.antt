@@ -38,13 +38,13 @@ use Rattle.tables.proofs.Calls.{Mut, slice}
 use Rattle.tables.proofs.MessageCalls.{Posting, calls-post}
 use Rattle.advance.proofs.Callees.{FromIns, CountIns, FirstIns, calls-from-in, calls-count-in, calls-first-in}
 use Rattle.advance.proofs.plans.from_in.Symbol as from-in-def
-use Rattle.advance.proofs.plans.from_in.Symbol.{name as #advance·from-in}
+use Rattle.advance.proofs.plans.from_in.Symbol.{name as #advance·plans·from-in}
 use Rattle.advance.proofs.plans.from_in.Met as from-in-thm
 use Rattle.advance.proofs.plans.count_in.Symbol as count-in-def
-use Rattle.advance.proofs.plans.count_in.Symbol.{name as #advance·count-in}
+use Rattle.advance.proofs.plans.count_in.Symbol.{name as #advance·plans·count-in}
 use Rattle.advance.proofs.plans.count_in.Met as count-in-thm
 use Rattle.advance.proofs.plans.first_in.Symbol as first-in-def
-use Rattle.advance.proofs.plans.first_in.Symbol.{name as #advance·first-in}
+use Rattle.advance.proofs.plans.first_in.Symbol.{name as #advance·plans·first-in}
 use Rattle.advance.proofs.plans.first_in.Met as first-in-thm
 use Rattle.tables.proofs.post.Symbol as post-def
 use Rattle.tables.proofs.post.Symbol.{name as #tables·post}
@@ -90,13 +90,13 @@ module _ {M : Type 1} (𝓤 : URA M) (H : Heap 𝓤) (A : Atoms 𝓤) (W : Given
   asked : (i c : ℕ) (first : Message) → i ≡ w .from → c ≡ w .count → first ≡ w .first → Sound w n → Asked i c first
   asked i c first ei ec ef h = subst (λ (u : Message). Asked i c u) (sym ef) (subst (λ (k : ℕ). Asked i k (w .first)) (sym ec) (subst (λ (j : ℕ). Asked j (w .count) (w .first)) (sym ei) (h .room, (h .number, h .to))))
 
-  module _ (C : Calls 𝓤 H) (Λ : Loops 𝓤 H) (fm : FmC 𝓤 H (W .laws) C) (from-in-known : Triple 𝓤 (C #advance·from-in) (FromIns 𝓤 H A mem run)) (count-in-known : Triple 𝓤 (C #advance·count-in) (CountIns 𝓤 H A mem run)) (first-in-known : Triple 𝓤 (C #advance·first-in) (FirstIns 𝓤 H A mem run)) (post-known : Triple 𝓤 (C #tables·post) (Posting 𝓤 H A mem run)) where
+  module _ (C : Calls 𝓤 H) (Λ : Loops 𝓤 H) (fm : FmC 𝓤 H (W .laws) C) (from-in-known : Triple 𝓤 (C #advance·plans·from-in) (FromIns 𝓤 H A mem run)) (count-in-known : Triple 𝓤 (C #advance·plans·count-in) (CountIns 𝓤 H A mem run)) (first-in-known : Triple 𝓤 (C #advance·plans·first-in) (FirstIns 𝓤 H A mem run)) (post-known : Triple 𝓤 (C #tables·post) (Posting 𝓤 H A mem run)) where
     walk : Room R n → Is R-Work w (vals-Work w) → Sound w n → ent 𝓤 (onEntry 𝓤 H A lay.signature (κ, tt) (q, tt) a at) (WpFn 𝓤 H C Λ code.function (sliceVal (b, o) n ∷ val-Work w ∷ []) Post)
     walk gn gw h₀ =
         qed W ((‵ (flft κ q) ⊛ ‵ ftrue) ∷ ‵ (owns (MutSlice (named 0) κ R ∷ R-Work ∷ []) a at) ∷ []) ∵ enter ! C Λ code.function (sliceVal (b, o) n ∷ val-Work w ∷ []) _ $
         alloc1 ! (λ l₀. alloc1 ! (λ l₁. alloc1 ! (λ l₂. alloc1 ! (λ l₃. alloc1 ! (λ l₄. alloc1 ! (λ l₅. alloc1 ! (λ l₆. alloc1 ! (λ l₇. alloc1 ! (λ l₈. alloc0 ! $ params1 ! $
         pass1 ! (init ! 14 refl (tt, (tt, (record { fits = gn .0 }, tt)))) $ pass1 ! (init ! 12 refl (typed-Work 𝓤 H A W w gw)) $ pass0 ! $
-        move ! (19 ∷ 18 ∷ []) $ fsplit ! $ move ! (2 ∷ []) $ split ! $ move ! (2 ∷ 0 ∷ []) $
+        move ! (19 ∷ 18 ∷ []) $ fsplit ! $ move ! (2 ∷ []) $ split ! $ move ! (2 ∷ []) $
         -- [t's slice; the token; true; what the others own; _8 (4); …; _7 (6); …; _6 (8); …; _5 (10); …; _4 (12); …; _3 (14); …; _2 (16); …; _1 (18); …; _0 (20); …]
         calls-from-in ! fm mem run from-in-known w gw (λ P. and-then ! (load ! (from ! (stop !)) (look ! 17 refl)) (no-more !)) (λ i gi ei.
         land ! (from ! (stop !)) (init ! 14 refl (tt, record { fits = gi })) $
@@ -114,12 +114,12 @@ module _ {M : Type 1} (𝓤 : URA M) (H : Heap 𝓤) (A : Atoms 𝓤) (W : Given
         keep ! (0 ∷ 1 ∷ 3 ∷ []) $ by ! (exits (laidAt i (copies first c) ys) len (told i c first ei ec ef)))))))))))))))
 
 module _ {M : Type 1} (𝓤 : URA M) (H : Heap 𝓤) (A : Atoms 𝓤) (W : Given 𝓤 H A) (mem : Memory → SProp 𝓤) (run : Routine → Fun 𝓤) where
-  lay-walks : (C : Calls 𝓤 H) (Λ : Loops 𝓤 H) → FmC 𝓤 H (W .laws) C → Triple 𝓤 (C #advance·from-in) (FromIns 𝓤 H A mem run) → Triple 𝓤 (C #advance·count-in) (CountIns 𝓤 H A mem run) → Triple 𝓤 (C #advance·first-in) (FirstIns 𝓤 H A mem run) → Triple 𝓤 (C #tables·post) (Posting 𝓤 H A mem run) → Walks 𝓤 H A lay.ended stayed (WpFn 𝓤 H C Λ code.function) (lay.clauses 𝓤 H A mem run)
+  lay-walks : (C : Calls 𝓤 H) (Λ : Loops 𝓤 H) → FmC 𝓤 H (W .laws) C → Triple 𝓤 (C #advance·plans·from-in) (FromIns 𝓤 H A mem run) → Triple 𝓤 (C #advance·plans·count-in) (CountIns 𝓤 H A mem run) → Triple 𝓤 (C #advance·plans·first-in) (FirstIns 𝓤 H A mem run) → Triple 𝓤 (C #tables·post) (Posting 𝓤 H A mem run) → Walks 𝓤 H A lay.ended stayed (WpFn 𝓤 H C Λ code.function) (lay.clauses 𝓤 H A mem run)
   lay-walks C Λ fm k₀ k₁ k₂ k₃ = walked 𝓤 H A lay.ended stayed (lay.clauses 𝓤 H A mem run) (WpFn 𝓤 H C Λ code.function) (λ κs. (slice-vals, (vals-Work, tt))) (λ κs. (mut-slice-tells (named 0) (κs .0) R, (tells-Work, tt)))
       (λ κs qs bounds a g are. needs 𝓤 (Sound (a .1 .0) (length (now (a .0)))) _ (λ l.
       walk 𝓤 H A W mem run (κs .0) (qs .0) (a .0 .ptr .0) (a .0 .ptr .1) (a .0 .name) (a .0 .now) (a .1 .0) C Λ fm k₀ k₁ k₂ k₃ (are .0 .0 .1) (are .1 .0) (l)))
 
-lay-meets : {M : Type 1} (𝓤 : URA M) (H : Heap 𝓤) (A : Atoms 𝓤) → Given 𝓤 H A → (mem : Memory → SProp 𝓤) (run : Routine → Fun 𝓤) (𝓣 : Tables 𝓤 H) → Triple 𝓤 (𝓣 .C #advance·from-in) (FromIns 𝓤 H A mem run) → Triple 𝓤 (𝓣 .C #advance·count-in) (CountIns 𝓤 H A mem run) → Triple 𝓤 (𝓣 .C #advance·first-in) (FirstIns 𝓤 H A mem run) → Triple 𝓤 (𝓣 .C #tables·post) (Posting 𝓤 H A mem run) → Meets 𝓤 H A lay.signature (WpFn 𝓤 H (𝓣 .C) (𝓣 .Λ) code.function) (lay.spec 𝓤 H A mem run)
+lay-meets : {M : Type 1} (𝓤 : URA M) (H : Heap 𝓤) (A : Atoms 𝓤) → Given 𝓤 H A → (mem : Memory → SProp 𝓤) (run : Routine → Fun 𝓤) (𝓣 : Tables 𝓤 H) → Triple 𝓤 (𝓣 .C #advance·plans·from-in) (FromIns 𝓤 H A mem run) → Triple 𝓤 (𝓣 .C #advance·plans·count-in) (CountIns 𝓤 H A mem run) → Triple 𝓤 (𝓣 .C #advance·plans·first-in) (FirstIns 𝓤 H A mem run) → Triple 𝓤 (𝓣 .C #tables·post) (Posting 𝓤 H A mem run) → Meets 𝓤 H A lay.signature (WpFn 𝓤 H (𝓣 .C) (𝓣 .Λ) code.function) (lay.spec 𝓤 H A mem run)
 lay-meets 𝓤 H A W mem run 𝓣 k₀ k₁ k₂ k₃ = walk-meets 𝓤 H A lay.ended stayed W (goes-slice 𝓤 H A W 1 0 tt (plain (λ _. R)), (goes-none 𝓤 H A W 1 (λ _. R-Work) yes (λ κs x f. refl), tt)) (lay.clauses 𝓤 H A mem run)
     (WpFn 𝓤 H (𝓣 .C) (𝓣 .Λ) code.function) (WpFn-mono 𝓤 H (W .laws) 𝓣 code.function) (lay-walks 𝓤 H A W mem run (𝓣 .C) (𝓣 .Λ) (fmOf 𝓤 H (W .laws) 𝓣) k₀ k₁ k₂ k₃)
 
@@ -129,7 +129,7 @@ lay-spec 𝓤 H 𝓜 𝓖 𝓡 =
     entered 𝓤 H (tripleOf 𝓤 H (𝓖 .A) lay.signature (lay.spec 𝓤 H (𝓖 .A) (𝓜 .mem) (𝓡 .run)))
     (tables 𝓤 H 𝓜 𝓡 code.env .C) (tables 𝓤 H 𝓜 𝓡 code.env .Λ) #advance·lay code.function (code.unfolded 𝓤 H 𝓜 𝓡)
     (lay-meets 𝓤 H (𝓖 .A) (givenOf 𝓤 H 𝓜 𝓖) (𝓜 .mem) (𝓡 .run) (tablesOf 𝓤 H 𝓜 (tables 𝓤 H 𝓜 𝓡 code.env))
-    (cited 𝓤 H (FromIns 𝓤 H (𝓖 .A) (𝓜 .mem) (𝓡 .run)) 𝓜 𝓡 code.env #advance·from-in from-in-def.routine code.calls-advance·plans·from-in (from-in-thm.met 𝓤 H 𝓜 𝓖 𝓡))
-    (cited 𝓤 H (CountIns 𝓤 H (𝓖 .A) (𝓜 .mem) (𝓡 .run)) 𝓜 𝓡 code.env #advance·count-in count-in-def.routine code.calls-advance·plans·count-in (count-in-thm.met 𝓤 H 𝓜 𝓖 𝓡))
-    (cited 𝓤 H (FirstIns 𝓤 H (𝓖 .A) (𝓜 .mem) (𝓡 .run)) 𝓜 𝓡 code.env #advance·first-in first-in-def.routine code.calls-advance·plans·first-in (first-in-thm.met 𝓤 H 𝓜 𝓖 𝓡))
+    (cited 𝓤 H (FromIns 𝓤 H (𝓖 .A) (𝓜 .mem) (𝓡 .run)) 𝓜 𝓡 code.env #advance·plans·from-in from-in-def.routine code.calls-advance·plans·from-in (from-in-thm.met 𝓤 H 𝓜 𝓖 𝓡))
+    (cited 𝓤 H (CountIns 𝓤 H (𝓖 .A) (𝓜 .mem) (𝓡 .run)) 𝓜 𝓡 code.env #advance·plans·count-in count-in-def.routine code.calls-advance·plans·count-in (count-in-thm.met 𝓤 H 𝓜 𝓖 𝓡))
+    (cited 𝓤 H (FirstIns 𝓤 H (𝓖 .A) (𝓜 .mem) (𝓡 .run)) 𝓜 𝓡 code.env #advance·plans·first-in first-in-def.routine code.calls-advance·plans·first-in (first-in-thm.met 𝓤 H 𝓜 𝓖 𝓡))
     (cited 𝓤 H (Posting 𝓤 H (𝓖 .A) (𝓜 .mem) (𝓡 .run)) 𝓜 𝓡 code.env #tables·post post-def.routine code.calls-tables·post (post-thm.met 𝓤 H 𝓜 𝓖 𝓡)))

@@ -36,13 +36,13 @@ use Rattle.tables.proofs.Rows.{R as R₂}
 use Rattle.tables.proofs.Calls.{Shr, slice}
 use Rattle.advance.proofs.Callees.{RowPlaces, RowAts, KnownOfs, calls-row-place, calls-row-at, calls-known-of}
 use Rattle.advance.proofs.gather.row_place.Symbol as row-place-def
-use Rattle.advance.proofs.gather.row_place.Symbol.{name as #advance·row-place}
+use Rattle.advance.proofs.gather.row_place.Symbol.{name as #advance·gather·row-place}
 use Rattle.advance.proofs.gather.row_place.Met as row-place-thm
 use Rattle.tables.proofs.row_at.Symbol as row-at-def
 use Rattle.tables.proofs.row_at.Symbol.{name as #tables·row-at}
 use Rattle.tables.proofs.row_at.Met as row-at-thm
 use Rattle.advance.proofs.gather.known_of.Symbol as known-of-def
-use Rattle.advance.proofs.gather.known_of.Symbol.{name as #advance·known-of}
+use Rattle.advance.proofs.gather.known_of.Symbol.{name as #advance·gather·known-of}
 use Rattle.advance.proofs.gather.known_of.Met as known-of-thm
 use Rattle.tables.specs.Tables.{emptyRow}
 use Rattle.advance.proofs.Line.{typed as typed-Line}
@@ -78,13 +78,13 @@ module _ {M : Type 1} (𝓤 : URA M) (H : Heap 𝓤) (A : Atoms 𝓤) (W : Given
       suffices ! _ (ends-at 𝓤 H A learn.ended stayed (learn.clauses 𝓤 H A mem run) W (((κ, tt), (q, tt), tt, a, at), tt) (val-Known r) r (tt, (tt, tt)) (tt, (tt, tt))) $ says ! e $
       nothing ! $ move ! (2 ∷ 0 ∷ []) $ join ! $ frame ! $ fjoin ! $ frame ! $ owned ! R-Known (Is R-Known) (makes-Known 𝓤 H A) r _ is $ done !
 
-  module _ (C : Calls 𝓤 H) (Λ : Loops 𝓤 H) (fm : FmC 𝓤 H (W .laws) C) (row-place-known : Triple 𝓤 (C #advance·row-place) (RowPlaces 𝓤 H A mem run)) (row-at-known : Triple 𝓤 (C #tables·row-at) (RowAts 𝓤 H A mem run)) (known-of-known : Triple 𝓤 (C #advance·known-of) (KnownOfs 𝓤 H A mem run)) where
+  module _ (C : Calls 𝓤 H) (Λ : Loops 𝓤 H) (fm : FmC 𝓤 H (W .laws) C) (row-place-known : Triple 𝓤 (C #advance·gather·row-place) (RowPlaces 𝓤 H A mem run)) (row-at-known : Triple 𝓤 (C #tables·row-at) (RowAts 𝓤 H A mem run)) (known-of-known : Triple 𝓤 (C #advance·gather·known-of) (KnownOfs 𝓤 H A mem run)) where
     walk : Room R₂ n → Is R-Asked a₀ (vals-Asked a₀) → ent 𝓤 (onEntry 𝓤 H A learn.signature (κ, tt) (q, tt) a at) (WpFn 𝓤 H C Λ code.function (sliceVal (b, o) n ∷ val-Asked a₀ ∷ []) Post)
     walk gn ga₀ =
         qed W ((‵ (flft κ q) ⊛ ‵ ftrue) ∷ ‵ (owns (ShrSlice (named 0) κ R₂ ∷ R-Asked ∷ []) a at) ∷ []) ∵ enter ! C Λ code.function (sliceVal (b, o) n ∷ val-Asked a₀ ∷ []) _ $
         alloc1 ! (λ l₀. alloc1 ! (λ l₁. alloc1 ! (λ l₂. alloc1 ! (λ l₃. alloc1 ! (λ l₄. alloc0 ! $ params1 ! $
         pass1 ! (init ! 6 refl (tt, (tt, (record { fits = gn .0 }, tt)))) $ pass1 ! (init ! 4 refl (typed-Asked 𝓤 H A W a₀ ga₀)) $ pass0 ! $
-        move ! (11 ∷ 10 ∷ []) $ fsplit ! $ move ! (2 ∷ []) $ split ! $ move ! (2 ∷ 0 ∷ []) $
+        move ! (11 ∷ 10 ∷ []) $ fsplit ! $ move ! (2 ∷ []) $ split ! $ move ! (2 ∷ []) $
         -- [t's slice; the token; true; what the others own; _4 (4); …; _3 (6); …; _2 (8); …; _1 (10); …; _0 (12); …]
         calls-row-place ! fm mem run row-place-known a₀ ga₀ (λ P. and-then ! (load ! (from ! (stop !)) (look ! 9 refl)) (no-more !)) (λ i gi ei.
         land ! (from ! (stop !)) (init ! 6 refl (tt, record { fits = gi })) $
@@ -97,12 +97,12 @@ module _ {M : Type 1} (𝓤 : URA M) (H : Heap 𝓤) (A : Atoms 𝓤) (W : Given
         keep ! (0 ∷ 1 ∷ 3 ∷ []) $ by ! (exits r gr (er ∙ ap (knownOf a₀) (el ∙ ap (λ (j : ℕ). getD ys j emptyRow) ei)))))))))))
 
 module _ {M : Type 1} (𝓤 : URA M) (H : Heap 𝓤) (A : Atoms 𝓤) (W : Given 𝓤 H A) (mem : Memory → SProp 𝓤) (run : Routine → Fun 𝓤) where
-  learn-walks : (C : Calls 𝓤 H) (Λ : Loops 𝓤 H) → FmC 𝓤 H (W .laws) C → Triple 𝓤 (C #advance·row-place) (RowPlaces 𝓤 H A mem run) → Triple 𝓤 (C #tables·row-at) (RowAts 𝓤 H A mem run) → Triple 𝓤 (C #advance·known-of) (KnownOfs 𝓤 H A mem run) → Walks 𝓤 H A learn.ended stayed (WpFn 𝓤 H C Λ code.function) (learn.clauses 𝓤 H A mem run)
+  learn-walks : (C : Calls 𝓤 H) (Λ : Loops 𝓤 H) → FmC 𝓤 H (W .laws) C → Triple 𝓤 (C #advance·gather·row-place) (RowPlaces 𝓤 H A mem run) → Triple 𝓤 (C #tables·row-at) (RowAts 𝓤 H A mem run) → Triple 𝓤 (C #advance·gather·known-of) (KnownOfs 𝓤 H A mem run) → Walks 𝓤 H A learn.ended stayed (WpFn 𝓤 H C Λ code.function) (learn.clauses 𝓤 H A mem run)
   learn-walks C Λ fm k₀ k₁ k₂ = walked 𝓤 H A learn.ended stayed (learn.clauses 𝓤 H A mem run) (WpFn 𝓤 H C Λ code.function) (λ κs. (slice-vals, (vals-Asked, tt))) (λ κs. (shr-slice-tells (named 0) (κs .0) R₂, (tells-Asked, tt)))
       (λ κs qs bounds a g are. via 𝓤 _ (fst∗ 𝓤 _ (emp 𝓤))
       (walk 𝓤 H A W mem run (κs .0) (qs .0) (a .0 .ptr .0) (a .0 .ptr .1) (a .0 .name) (a .0 .now) (a .1 .0) C Λ fm k₀ k₁ k₂ (are .0 .0 .1) (are .1 .0)))
 
-learn-meets : {M : Type 1} (𝓤 : URA M) (H : Heap 𝓤) (A : Atoms 𝓤) → Given 𝓤 H A → (mem : Memory → SProp 𝓤) (run : Routine → Fun 𝓤) (𝓣 : Tables 𝓤 H) → Triple 𝓤 (𝓣 .C #advance·row-place) (RowPlaces 𝓤 H A mem run) → Triple 𝓤 (𝓣 .C #tables·row-at) (RowAts 𝓤 H A mem run) → Triple 𝓤 (𝓣 .C #advance·known-of) (KnownOfs 𝓤 H A mem run) → Meets 𝓤 H A learn.signature (WpFn 𝓤 H (𝓣 .C) (𝓣 .Λ) code.function) (learn.spec 𝓤 H A mem run)
+learn-meets : {M : Type 1} (𝓤 : URA M) (H : Heap 𝓤) (A : Atoms 𝓤) → Given 𝓤 H A → (mem : Memory → SProp 𝓤) (run : Routine → Fun 𝓤) (𝓣 : Tables 𝓤 H) → Triple 𝓤 (𝓣 .C #advance·gather·row-place) (RowPlaces 𝓤 H A mem run) → Triple 𝓤 (𝓣 .C #tables·row-at) (RowAts 𝓤 H A mem run) → Triple 𝓤 (𝓣 .C #advance·gather·known-of) (KnownOfs 𝓤 H A mem run) → Meets 𝓤 H A learn.signature (WpFn 𝓤 H (𝓣 .C) (𝓣 .Λ) code.function) (learn.spec 𝓤 H A mem run)
 learn-meets 𝓤 H A W mem run 𝓣 k₀ k₁ k₂ = walk-meets 𝓤 H A learn.ended stayed W (goes-none-slice 𝓤 H A W 1 (0 ∷ []) tt (plain (λ _. R₂)) yes, (goes-none 𝓤 H A W 1 (λ _. R-Asked) yes (λ κs x f. refl), tt)) (learn.clauses 𝓤 H A mem run)
     (WpFn 𝓤 H (𝓣 .C) (𝓣 .Λ) code.function) (WpFn-mono 𝓤 H (W .laws) 𝓣 code.function) (learn-walks 𝓤 H A W mem run (𝓣 .C) (𝓣 .Λ) (fmOf 𝓤 H (W .laws) 𝓣) k₀ k₁ k₂)
 
@@ -112,6 +112,6 @@ learn-spec 𝓤 H 𝓜 𝓖 𝓡 =
     entered 𝓤 H (tripleOf 𝓤 H (𝓖 .A) learn.signature (learn.spec 𝓤 H (𝓖 .A) (𝓜 .mem) (𝓡 .run)))
     (tables 𝓤 H 𝓜 𝓡 code.env .C) (tables 𝓤 H 𝓜 𝓡 code.env .Λ) #advance·learn code.function (code.unfolded 𝓤 H 𝓜 𝓡)
     (learn-meets 𝓤 H (𝓖 .A) (givenOf 𝓤 H 𝓜 𝓖) (𝓜 .mem) (𝓡 .run) (tablesOf 𝓤 H 𝓜 (tables 𝓤 H 𝓜 𝓡 code.env))
-    (cited 𝓤 H (RowPlaces 𝓤 H (𝓖 .A) (𝓜 .mem) (𝓡 .run)) 𝓜 𝓡 code.env #advance·row-place row-place-def.routine code.calls-advance·gather·row-place (row-place-thm.met 𝓤 H 𝓜 𝓖 𝓡))
+    (cited 𝓤 H (RowPlaces 𝓤 H (𝓖 .A) (𝓜 .mem) (𝓡 .run)) 𝓜 𝓡 code.env #advance·gather·row-place row-place-def.routine code.calls-advance·gather·row-place (row-place-thm.met 𝓤 H 𝓜 𝓖 𝓡))
     (cited 𝓤 H (RowAts 𝓤 H (𝓖 .A) (𝓜 .mem) (𝓡 .run)) 𝓜 𝓡 code.env #tables·row-at row-at-def.routine code.calls-tables·row-at (row-at-thm.met 𝓤 H 𝓜 𝓖 𝓡))
-    (cited 𝓤 H (KnownOfs 𝓤 H (𝓖 .A) (𝓜 .mem) (𝓡 .run)) 𝓜 𝓡 code.env #advance·known-of known-of-def.routine code.calls-advance·gather·known-of (known-of-thm.met 𝓤 H 𝓜 𝓖 𝓡)))
+    (cited 𝓤 H (KnownOfs 𝓤 H (𝓖 .A) (𝓜 .mem) (𝓡 .run)) 𝓜 𝓡 code.env #advance·gather·known-of known-of-def.routine code.calls-advance·gather·known-of (known-of-thm.met 𝓤 H 𝓜 𝓖 𝓡)))
