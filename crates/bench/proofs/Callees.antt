@@ -19,7 +19,7 @@ use prog.Wp.{Heap, Env, Calls, Loops}
 use ghost.Atoms.{Atoms, sem}
 use contract.Monad.{Fun, fact, factI}
 use sound.WpLaws.{FmC}
-use types.Kit.{Given, Item, ‵, raw, _⊛_, some, later, Post, Seq, runs, lands, _$_, move, use0, use1, drop, split, join, pick, rewrite, fjoin, await}
+use types.Kit.{Given, Item, ‵, raw, _⊛_, some, later, Post, Seq, runs, lands, _$_, move, use0, use1, drop, split, join, pick, fjoin, await}
 use types.Run.{Opds}
 use denote.RattleType.{RattleType}
 use denote.Laws.{Is, Ises, owns-make, shows}
@@ -27,12 +27,12 @@ use denote.Exit.{yes}
 use denote.Plain.{Nothing, uint-makes, bool-makes}
 use denote.Builtin.{usize, u8, bool}
 use denote.Slice.{sliceVal, Room, shr-slice-copy}
-use denote.Signature.{Signature, plain, shrSliceOf}
+use denote.Signature.{plain}
 use denote.Steps.{peeks, heard, nothing, only}
 use denote.Triple.Call.{calls-at}
 use denote.Triple.Spec.{tripleOf}
 use denote.Triple.Statement.{Contract, Triple}
-use denote.Triple.Clauses.{Clauses, Ended, Lasts, lasts, atExit, ensured, closing}
+use denote.Triple.Clauses.{Clauses, Lasts, lasts, atExit, ensured, closing}
 use Rattle.words.specs.declared.Message.{Message}
 use Rattle.tables.specs.declared.Row.{Row}
 use Rattle.tables.specs.Tables.{emptyMessage, emptyRow}
@@ -44,12 +44,12 @@ use Rattle.state.specs.declared.Stepped.{Stepped}
 use Rattle.state.specs.Tabled.{tabled}
 use Rattle.standing.specs.declared.Statuses.{Statuses}
 use Rattle.standing.specs.Status.{standingsOf, downs}
-use Rattle.judge.proofs.OfBench.{R as RBench, val as valBench, vals as valsBench, makes as makesBench}
-use Rattle.judge.proofs.TabledCall.{IsTabled}
+use Rattle.state.proofs.OfBench.{R as RBench, val as valBench, vals as valsBench, makes as makesBench}
+use Rattle.judge.proofs.TabledCall.{IsTabled, shr2-sig, shr2-end}
 use Rattle.judge.proofs.is_tabled as is-tabled
 use Rattle.judge.proofs.is_tabled.Symbol.{name as #judge·is-tabled}
 use Rattle.bench.specs.Start.{starts, startReply}
-use Rattle.bench.proofs.OfStepped.{R as RStepped, val as valStepped, vals as valsStepped, tells as tellsStepped}
+use Rattle.advance.proofs.Steppeds.{R as RStepped, val as valStepped, vals as valsStepped, tells as tellsStepped}
 use Rattle.bench.proofs.OfStatuses.{R as RStatuses, val as valStatuses, vals as valsStatuses, tells as tellsStatuses}
 use Rattle.bench.proofs.clear_messages_if as clear-messages-if
 use Rattle.bench.proofs.clear_messages_if.Symbol.{name as #bench·clear-messages-if}
@@ -77,12 +77,6 @@ module _ {M : Type 1} (𝓤 : URA M) (H : Heap 𝓤) (A : Atoms 𝓤) (mem : Mem
 
   abbrev pub StandingsIf : Contract 𝓤
   StandingsIf = tripleOf 𝓤 H A standings-if.signature (standings-if.spec 𝓤 H A mem run)
-
-abbrev shr2-sig : RattleType → RattleType → RattleType → RattleType → Signature
-shr2-sig D R₀ R₁ S = record { lifetimes = 2; outlives = []; params = plain (λ _. D) ∷ shrSliceOf (0 ∷ []) tt (plain (λ _. R₀)) ∷ shrSliceOf (1 ∷ []) tt (plain (λ _. R₁)) ∷ []; result = plain (λ _. S) }
-
-abbrev shr2-end : RattleType → RattleType → RattleType → RattleType → Ended
-shr2-end D R₀ R₁ S = record { signature = shr2-sig D R₀ R₁ S; kept = (yes, (yes, (yes, tt))) }
 
 module _ {M : Type 1} {𝓤 : URA M} {H : Heap 𝓤} {A : Atoms 𝓤} {K : Type 0} {W : Given 𝓤 H A} {Γ : List (Item 𝓤)} {E : Env 𝓤 H} {C : Calls 𝓤 H} {Λ : Loops 𝓤 H} {p : Post 𝓤 H} {f : Name} {xs : List Operand} {d : Place} {rest : Body} where
   pub calls-ref2 : K → FmC 𝓤 H (W .laws) C → (D R₀ R₁ S : RattleType) (c : Clauses 𝓤 (shr2-end D R₀ R₁ S)) → Triple 𝓤 (C f) (tripleOf 𝓤 H A (shr2-sig D R₀ R₁ S) (closing 𝓤 H A (shr2-end D R₀ R₁ S) c))

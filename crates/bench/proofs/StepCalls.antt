@@ -34,11 +34,11 @@ use Rattle.state.specs.declared.Bench.{Bench}
 use Rattle.state.specs.declared.Event.{Event}
 use Rattle.state.specs.declared.Stepped.{Stepped}
 use Rattle.state.specs.Tabled.{tabled}
-use Rattle.judge.proofs.OfBench.{R as RBench, val as valBench, vals as valsBench, makes as makesBench}
+use Rattle.state.proofs.OfBench.{R as RBench, val as valBench, vals as valsBench, makes as makesBench}
 use Rattle.advance.specs.Advanced.{Advanced}
 use Rattle.bench.specs.Reply.{unformed}
-use Rattle.bench.proofs.OfEvent.{R as REvent, val as valEvent, vals as valsEvent, makes as makesEvent}
-use Rattle.bench.proofs.OfStepped.{R as RStepped, val as valStepped, vals as valsStepped, tells as tellsStepped}
+use Rattle.advance.proofs.Events.{R as REvent, val as valEvent, vals as valsEvent, makes as makesEvent}
+use Rattle.advance.proofs.Steppeds.{R as RStepped, val as valStepped, vals as valsStepped, tells as tellsStepped}
 use Rattle.advance.proofs.advance as advance
 use Rattle.advance.proofs.advance.Symbol.{name as #advance·advance}
 use Rattle.bench.proofs.replies.refused as refused

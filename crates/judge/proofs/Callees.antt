@@ -39,7 +39,7 @@ use Rattle.judge.proofs.OfScan.{R as RScan, val as valScan, vals as val
 use Rattle.judge.specs.declared.RowScan.{RowScan}
 use Rattle.judge.proofs.OfRowScan.{R as RRowScan, val as valRowScan, vals as valsRowScan, tells as tellsRowScan, makes as makesRowScan}
 use Rattle.state.specs.declared.Bench.{Bench}
-use Rattle.judge.proofs.OfBench.{R as RBench, val as valBench, vals as valsBench, makes as makesBench}
+use Rattle.state.proofs.OfBench.{R as RBench, val as valBench, vals as valsBench, makes as makesBench}
 use Rattle.tables.proofs.Calls.{calls-ref, calls-plain, Shr}
 use Rattle.judge.specs.Scans.{limitsOf, limited, startMessages, scanMessage, scanMessages, startRows, scanRow, scanRows, judged}
 use Rattle.judge.proofs.counts.limits_of as limits-of

@@ -1,6 +1,5 @@
 pub mod OfLimits
 pub mod OfScan
 pub mod OfRowScan
-pub mod OfBench
 pub mod Callees
 pub mod TabledCall

@@ -40,14 +40,14 @@ use Rattle.tables.proofs.Again.{LentShared, lends-shared, shared-back}
 use Rattle.tables.proofs.Calls.{Mut, Shr, slice, two}
 use Rattle.state.specs.declared.Bench.{Bench}
 use Rattle.state.specs.Tabled.{tabled}
-use Rattle.judge.proofs.OfBench.{R as RBench, val as valBench, vals as valsBench, makes as makesBench}
+use Rattle.state.proofs.OfBench.{R as RBench, val as valBench, vals as valsBench, makes as makesBench}
 use Rattle.judge.proofs.is_tabled as is-tabled
 use Rattle.judge.proofs.is_tabled.Symbol.{name as #judge·is-tabled}
 
-abbrev shr2-sig : RattleType → RattleType → RattleType → RattleType → Signature
+abbrev pub shr2-sig : RattleType → RattleType → RattleType → RattleType → Signature
 shr2-sig D R₀ R₁ S = record { lifetimes = 2; outlives = []; params = plain (λ _. D) ∷ shrSliceOf (0 ∷ []) tt (plain (λ _. R₀)) ∷ shrSliceOf (1 ∷ []) tt (plain (λ _. R₁)) ∷ []; result = plain (λ _. S) }
 
-abbrev shr2-end : RattleType → RattleType → RattleType → RattleType → Ended
+abbrev pub shr2-end : RattleType → RattleType → RattleType → RattleType → Ended
 shr2-end D R₀ R₁ S = record { signature = shr2-sig D R₀ R₁ S; kept = (yes, (yes, (yes, tt))) }
 
 module _ {M : Type 1} {𝓤 : URA M} {H : Heap 𝓤} {A : Atoms 𝓤} {K : Type 0} {W : Given 𝓤 H A} {Γ : List (Item 𝓤)} {E : Env 𝓤 H} {C : Calls 𝓤 H} {Λ : Loops 𝓤 H} {p : Post 𝓤 H} {f : Name} {xs : List Operand} {d : Place} {rest : Body} where

@@ -4,16 +4,16 @@ use libc::STDOUT_FILENO;
 
 // One more digit of a number; a byte that is no digit leaves it.
 fn digit(number: u64, byte: u8) -> u64 {
-    if byte < 48 {
+    if byte < b'0' {
         return number;
     }
-    if byte > 57 {
+    if byte > b'9' {
         return number;
     }
     if number > 99999 {
         return number;
     }
-    number * 10 + (byte - 48) as u64
+    number * 10 + (byte - b'0') as u64
 }
 
 // The number in a word of up to six digits.

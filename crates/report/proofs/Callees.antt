@@ -41,7 +41,7 @@ use Rattle.text.proofs.lines.put_run_line.Symbol.{name as #text·lines·put-run
 use Rattle.text.proofs.tail.put_tail as put-tail
 use Rattle.text.proofs.tail.put_tail.Symbol.{name as #text·tail·put-tail}
 use Rattle.report.proofs.MutRef.{calls-mut-ref}
-use Rattle.report.proofs.OfBench.{R as RBench, val as valBench, vals as valsBench, makes as makesBench}
+use Rattle.state.proofs.OfBench.{R as RBench, val as valBench, vals as valsBench, makes as makesBench}
 use Rattle.report.proofs.put_rows as put-rows
 use Rattle.report.proofs.put_rows.Symbol.{name as #report·put-rows}
 

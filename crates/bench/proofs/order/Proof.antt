@@ -41,7 +41,7 @@ use Rattle.tables.proofs.Rows.{R as R₂}
 use Rattle.tables.proofs.Calls.{Mut, Shr, slice}
 use Rattle.bench.proofs.Callees.{calls-is-tabled-ref}
 use Rattle.state.specs.declared.Bench.{Bench}
-use Rattle.judge.proofs.OfBench.{R as RBench, val as valBench, vals as valsBench, tells as tellsBench, typed as typedBench}
+use Rattle.state.proofs.OfBench.{R as RBench, val as valBench, vals as valsBench, tells as tellsBench, typed as typedBench}
 use Rattle.judge.proofs.is_tabled.Symbol as is-tabled-def
 use Rattle.judge.proofs.is_tabled.Symbol.{name as #judge·is-tabled}
 use Rattle.judge.proofs.is_tabled.Met as is-tabled-thm

@@ -66,7 +66,7 @@ use Rattle.tables.specs.Tables.{emptyMessage, emptyRow}
 use Rattle.state.specs.declared.Stepped.{Stepped}
 use Rattle.bench.specs.Start.{starts, startReply}
 use Rattle.bench.specs.StartLaws.{messages-cleared, rows-cleared}
-use Rattle.bench.proofs.OfStepped.{R as RStepped, val as valStepped, vals as valsStepped, typed as typedStepped, makes as makesStepped}
+use Rattle.advance.proofs.Steppeds.{R as RStepped, val as valStepped, vals as valsStepped, typed as typedStepped, makes as makesStepped}
 use Rattle.bench.proofs.start.Key.{name as #bench·start}
 use Rattle.bench.proofs.start as start
 use Rattle.bench.proofs.start.Statement as stated

@@ -39,9 +39,9 @@ use Rattle.tables.proofs.Messages.{R}
 use Rattle.tables.proofs.Rows.{R as R₂}
 use Rattle.tables.proofs.Calls.{Mut, slice}
 use Rattle.state.specs.declared.Bench.{Bench}
-use Rattle.judge.proofs.OfBench.{R as RBench, val as valBench, vals as valsBench, tells as tellsBench, typed as typedBench}
+use Rattle.state.proofs.OfBench.{R as RBench, val as valBench, vals as valsBench, tells as tellsBench, typed as typedBench}
 use Rattle.state.specs.declared.Event.{Event}
-use Rattle.bench.proofs.OfEvent.{R as REvent, val as valEvent, vals as valsEvent, tells as tellsEvent, typed as typedEvent}
+use Rattle.advance.proofs.Events.{R as REvent, val as valEvent, vals as valsEvent, tells as tellsEvent, typed as typedEvent}
 use Rattle.judge.proofs.is_tabled.Symbol as is-tabled-def
 use Rattle.judge.proofs.is_tabled.Symbol.{name as #judge·is-tabled}
 use Rattle.judge.proofs.is_tabled.Met as is-tabled-thm
@@ -57,7 +57,7 @@ use Rattle.state.specs.Tabled.{tabled}
 use Rattle.tables.proofs.Flow.{ifs, falls}
 use Rattle.judge.proofs.TabledCall.{IsTabled, calls-is-tabled}
 use Rattle.bench.specs.ReplyLaws.{Replied, advanced-replied, refused-replied}
-use Rattle.bench.proofs.OfStepped.{R as RStepped, val as valStepped, vals as valsStepped, typed as typedStepped, makes as makesStepped}
+use Rattle.advance.proofs.Steppeds.{R as RStepped, val as valStepped, vals as valsStepped, typed as typedStepped, makes as makesStepped}
 use Rattle.bench.proofs.StepCalls.{Advances, Refused, calls-advance, calls-refused}
 use Rattle.bench.proofs.step.Key.{name as #bench·step}
 use Rattle.bench.proofs.step as step

@@ -41,7 +41,7 @@ use Rattle.tables.proofs.MessageCalls.{}
 use Rattle.tables.proofs.RowCalls.{}
 use Rattle.judge.proofs.Callees.{LimitsOf, ScanMessages, ScanRows, Judge, calls-limits-of, calls-scan-messages, calls-scan-rows, calls-judge}
 use Rattle.state.specs.declared.Bench.{Bench}
-use Rattle.judge.proofs.OfBench.{R as RBench, val as valBench, vals as valsBench, tells as tellsBench, typed as typedBench}
+use Rattle.state.proofs.OfBench.{R as RBench, val as valBench, vals as valsBench, tells as tellsBench, typed as typedBench}
 use Rattle.judge.proofs.OfLimits.{typed as typedLimits}
 use Rattle.judge.specs.declared.RowScan.{RowScan}
 use Rattle.judge.proofs.OfRowScan.{typed as typedRowScan}

@@ -40,7 +40,7 @@ use Rattle.tables.proofs.Rows.{R as R₂}
 use Rattle.tables.proofs.Calls.{Mut, Shr, slice}
 use Rattle.report.proofs.Callees.{PutRunLine, PutRows, PutTail, calls-put-run-line, calls-put-rows, calls-put-tail}
 use Rattle.state.specs.declared.Bench.{Bench}
-use Rattle.report.proofs.OfBench.{R as RBench, val as valBench, vals as valsBench, tells as tellsBench, typed as typedBench}
+use Rattle.state.proofs.OfBench.{R as RBench, val as valBench, vals as valsBench, tells as tellsBench, typed as typedBench}
 use Rattle.text.proofs.lines.put_run_line.Symbol as put-run-line-def
 use Rattle.text.proofs.lines.put_run_line.Symbol.{name as #text·lines·put-run-line}
 use Rattle.text.proofs.lines.put_run_line.Met as put-run-line-thm
