@@ -1,4 +1,5 @@
 crate='advance'; lib='tables'; fn='advance'; locals=15
+named=True
 params=[('t','mut'),('h','mut₂'),('bench','R-Bench'),('event','R-Event')]
 result='Stepped'
 callees=[('ask','Asks','advance'),('learn','Learns','advance'),('act','Acts','advance')]
@@ -11,20 +12,6 @@ use Rattle.state.specs.Tabled.{tabled}
 use Rattle.tables.specs.Tables.{emptyRow}
 use Rattle.advance.specs.Advanced.{Advanced}
 use Rattle.advance.specs.Advances.{bounded, flight-within, ready, done as steps}
-use Rattle.state.specs.declared.Bench.{Bench}
-use Rattle.state.specs.declared.Event.{Event}
-use Rattle.state.specs.declared.Stepped.{Stepped}
-use Rattle.advance.specs.declared.Sought.{Sought}
-use Rattle.advance.specs.declared.Asked.{Asked}
-use Rattle.advance.specs.declared.Known.{Known}
-use Rattle.advance.specs.declared.Work.{Work}
-use Rattle.advance.proofs.Benches.{R as R-Bench, val as val-Bench, vals as vals-Bench, tells as tells-Bench, typed as typed-Bench, makes as makes-Bench}
-use Rattle.advance.proofs.Events.{R as R-Event, val as val-Event, vals as vals-Event, tells as tells-Event, typed as typed-Event, makes as makes-Event}
-use Rattle.advance.proofs.Soughts.{R as R-Sought, val as val-Sought, vals as vals-Sought, tells as tells-Sought, typed as typed-Sought, makes as makes-Sought}
-use Rattle.advance.proofs.Askeds.{R as R-Asked, val as val-Asked, vals as vals-Asked, tells as tells-Asked, typed as typed-Asked, makes as makes-Asked}
-use Rattle.advance.proofs.Knowns.{R as R-Known, val as val-Known, vals as vals-Known, tells as tells-Known, typed as typed-Known, makes as makes-Known}
-use Rattle.advance.proofs.Works.{R as R-Work, val as val-Work, vals as vals-Work, tells as tells-Work, typed as typed-Work, makes as makes-Work}
-use Rattle.advance.proofs.Steppeds.{R as R-Stepped, val as val-Stepped, vals as vals-Stepped, tells as tells-Stepped, typed as typed-Stepped, makes as makes-Stepped}
 '''
 exits='''
 abbrev Had : List Message → List Row → List (Item 𝓤)

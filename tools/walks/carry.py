@@ -1,4 +1,5 @@
 crate='advance'; lib='tables'; fn='carry'; locals=13
+named=True
 params=[('t','mut'),('h','mut₂'),('w','R-Work')]
 result='unit'
 callees=[('cut_out','CutOuts','advance'),('lay','Lays','advance'),('plans.place_in','PlaceIns','advance'),('plans.row_in','RowIns','advance'),('put_row','PutRow')]
@@ -8,9 +9,7 @@ requires=['Sound w n₀']
 about='Five calls in a row, over two tables.'
 uses='''
 use Rattle.tables.specs.Tables.{copies, laidAt}
-use Rattle.advance.specs.declared.Work.{Work}
 use Rattle.advance.specs.Parts.{Sound, droppedIf, carriedMessages, carriedRows}
-use Rattle.advance.proofs.Works.{R as R-Work, val as val-Work, vals as vals-Work, tells as tells-Work, typed as typed-Work}
 '''
 exits='''
 abbrev Had : List Message → List Row → List (Item 𝓤)

@@ -1,4 +1,5 @@
 crate='advance'; lib='tables'; fn='cut_out'; locals=9
+named=True
 params=[('t','mut'),('w','R-Work')]
 result='unit'
 callees=[('plans.cut_in','CutIns','advance'),('plans.at_in','AtIns','advance'),('plans.flight_in','FlightIns','advance'),('drop_message','DropMessages','advance')]
@@ -7,9 +8,7 @@ own=['CutIns','AtIns','FlightIns','DropMessages']+calls
 requires=['Sound w n']
 about='The work is read part by part, and passed on.'
 uses='''
-use Rattle.advance.specs.declared.Work.{Work}
 use Rattle.advance.specs.Parts.{Sound, droppedIf}
-use Rattle.advance.proofs.Works.{R as R-Work, val as val-Work, vals as vals-Work, tells as tells-Work, typed as typed-Work}
 '''
 exits='''
 exits : (zs : List Message) → length zs ≡ n → zs ≡ droppedIf (w .cut) (w .at) (w .flight) ys → ent 𝓤 (⋆ 𝓤 H A (‵ (Mut R κ b o n γ zs) ∷ ‵ (flft κ q) ∷ @OWN ∷ [])) (Post vunit)

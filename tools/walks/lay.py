@@ -1,4 +1,5 @@
 crate='advance'; lib='tables'; fn='lay'; locals=9
+named=True
 params=[('t','mut'),('w','R-Work')]
 result='unit'
 callees=[('plans.from_in','FromIns','advance'),('plans.count_in','CountIns','advance'),('plans.first_in','FirstIns','advance'),('post','Posting')]
@@ -8,9 +9,7 @@ requires=['Sound w n']
 about='The work is read part by part, and passed on.'
 uses='''
 use Rattle.tables.specs.Tables.{copies, laidAt}
-use Rattle.advance.specs.declared.Work.{Work}
 use Rattle.advance.specs.Parts.{Sound}
-use Rattle.advance.proofs.Works.{R as R-Work, val as val-Work, vals as vals-Work, tells as tells-Work, typed as typed-Work}
 '''
 exits='''
 exits : (zs : List Message) → length zs ≡ n → zs ≡ laidAt (w .from) (copies (w .first) (w .count)) ys → ent 𝓤 (⋆ 𝓤 H A (‵ (Mut R κ b o n γ zs) ∷ ‵ (flft κ q) ∷ @OWN ∷ [])) (Post vunit)

@@ -1,4 +1,5 @@
 crate='advance'; lib='tables'; fn='seek_out'; locals=7
+named=True
 params=[('t','shr'),('c','usize'),('k','u32')]
 result='Sought'
 callees=[('find','Finds'),('gather.place_of','PlaceOfs','advance'),('message_at','MessageAt'),('gather.sought_of','SoughtOfs','advance')]
@@ -9,11 +10,7 @@ about='Four calls in a row.'
 uses='''
 use lib.ListN.{take}
 use Rattle.tables.specs.Tables.{emptyMessage, seek}
-use Rattle.tables.specs.declared.Found.{Found}
-use Rattle.advance.specs.declared.Sought.{Sought}
 use Rattle.advance.specs.Parts.{placeOf, soughtOf, soughtIn}
-use Rattle.advance.proofs.Founds.{typed as typed-Found}
-use Rattle.advance.proofs.Soughts.{R as R-Sought, val as val-Sought, vals as vals-Sought, typed as typed-Sought, makes as makes-Sought}
 '''
 exits='''
 exits : (r : Sought) → Is R-Sought r (vals-Sought r) → r ≡ soughtIn ys c k → ent 𝓤 (⋆ 𝓤 H A (‵ (Shr R κ b o n γ ys) ∷ ‵ (flft κ q) ∷ @OWN ∷ [])) (Post (val-Sought r))

@@ -1,4 +1,5 @@
 crate='advance'; lib='tables'; fn='sought_for'; locals=6
+named=True
 params=[('t','shr'),('bench','R-Bench'),('event','R-Event')]
 result='Sought'
 callees=[('gather.flight_of','FlightOfs','advance'),('gather.wanted','Wanteds','advance'),('seek_out','SeekOuts','advance')]
@@ -7,13 +8,7 @@ own=['FlightOfs','Wanteds','SeekOuts']+calls
 requires=['bench .flight ≤ n']
 about='Three calls in a row.'
 uses='''
-use Rattle.state.specs.declared.Bench.{Bench}
-use Rattle.state.specs.declared.Event.{Event}
-use Rattle.advance.specs.declared.Sought.{Sought}
 use Rattle.advance.specs.Parts.{wantedOf, soughtIn}
-use Rattle.advance.proofs.Benches.{R as R-Bench, val as val-Bench, vals as vals-Bench, tells as tells-Bench, typed as typed-Bench, makes as makes-Bench}
-use Rattle.advance.proofs.Events.{R as R-Event, val as val-Event, vals as vals-Event, tells as tells-Event, typed as typed-Event, makes as makes-Event}
-use Rattle.advance.proofs.Soughts.{R as R-Sought, val as val-Sought, vals as vals-Sought, tells as tells-Sought, typed as typed-Sought, makes as makes-Sought}
 '''
 exits='''
 exits : (r : Sought) → Is R-Sought r (vals-Sought r) → r ≡ soughtIn ys (bench .flight) (wantedOf event) → ent 𝓤 (⋆ 𝓤 H A (‵ (Shr R κ b o n γ ys) ∷ ‵ (flft κ q) ∷ @OWN ∷ [])) (Post (val-Sought r))

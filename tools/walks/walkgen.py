@@ -14,7 +14,7 @@ A description is a Python file that sets
   uses                further `use` lines (of your specs, Flow, Lists, ..)
   loop                True where the walk takes a `Tables` 𝓣: it has a loop, or an arm that ends in a call (`lasts`)
   structs             further structs as parameters, {'Limits': 'Rattle.judge.specs.declared.Limits', ..}: the kind is the struct's name, its facts are in the module OfLimits of the crate's proofs (R, val, vals, tells, typed, makes, imported as RLimits, valLimits, ..); where that module is another crate's, a pair: its record's module, and that module's full name
-  A parameter may also be of a kind 'R-Name': the struct or enum `Name`, with `R as R-Name, val as val-Name, vals, tells, typed, makes` in `uses`
+  named               True where the proof names structs and enums as R-Name, val-Name, ..: their records and the modules Names of the crate's proofs are imported. A parameter may be of the kind 'R-Name'
   alias               how the module of the function is called in the proof (default: as the function; a function called `run` needs another)
   own                 the names of Callees.antt of the crate itself, beside MessageCalls and RowCalls of lib. A callee in a module is named with a dot: ('messages.scan_message', 'ScanMessage', 'judge')
   root                the repository (default: the folder above this one)        second   the struct of R₂ (default Entry; its module is Row<second>)
@@ -319,6 +319,10 @@ alias=d.get('alias',name)
 if alias!=name:
     body=re.sub(r'(?<![\w\-#])'+name+r'\.(?=signature|ended|clauses|spec)',alias+'.',body)
     uses=[f'use Rattle.{crate}.proofs.{fn} as {alias}' if u==f'use Rattle.{crate}.proofs.{fn} as {name}' else u for u in uses]
+# what a proof cites of the structs and enums that it names as R-Name: the record of `Name`, and its module in the crate's proofs
+HOME={'Bench':'state','Event':'state','Stepped':'state','Found':'tables'}
+for N in sorted(set(re.findall(r'(?<![\w-])(?:R|val|vals|tells|typed|makes)-([A-Z]\w+)',body))):
+    if d.get('named') and not any(x.endswith('-'+N) for x in given): uses+=[f'use {SL(HOME.get(N,crate))}.declared.{N}.{{{N}}}',f'use {PL(crate)}.{N+("es" if N.endswith("ch") else "s")}.{{'+', '.join(f'{x} as {x}-{N}' for x in('R','val','vals','tells','typed','makes'))+'}']
 # keep only the imports that are used
 import unicodedata
 kept=[]

@@ -12,6 +12,7 @@ use Rattle.state.specs.State.{State, view, laidMessages, laidRows}
 use Rattle.state.specs.Step.{Outcome, step}
 use Rattle.state.specs.Tabled.{tabled, benchOf}
 use Rattle.advance.specs.Advanced.{Advanced}
+use Rattle.bench.specs.Start.{replied}
 use Rattle.bench.specs.Reply.{unformed, stepReply, stepMessages, stepRows}
 
 -- what was replied, and what the tables hold, is what `step` says
@@ -20,11 +21,9 @@ pub record Replied (b : Bench) (event : Event) (messages : List Message) (rows :
   pub messages-left : messages′ ≡ stepMessages b event messages rows
   pub rows-left : rows′ ≡ stepRows b event messages rows
 
-abbrev stepped : ℕ → Bench → Stepped
-stepped refusal bench = record { refusal = refusal; bench = bench }
-
-same : (r : Stepped) (refusal : ℕ) (bench : Bench) → r .refusal ≡ refusal → r .bench ≡ bench → r ≡ stepped refusal bench
-same r refusal bench e f = ap (λ (k : ℕ). stepped k (r .bench)) e ∙ ap (stepped refusal) f
+-- a reply, from its two parts
+pub same : (r : Stepped) (refusal : ℕ) (bench : Bench) → r .refusal ≡ refusal → r .bench ≡ bench → r ≡ replied refusal bench
+same r refusal bench e f = ap (λ (k : ℕ). replied k (r .bench)) e ∙ ap (replied refusal) f
 
 -- what a test picks, by what the test came to
 pub pick : {A : Type 0} (t u : Bool) (x y z : A) → t ≡ u → z ≡ cond u x y → z ≡ cond t x y

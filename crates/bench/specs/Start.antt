@@ -6,7 +6,7 @@ use lib.ListN.{replicate}
 use Rattle.words.specs.Ranges.{within}
 use Rattle.state.specs.declared.Bench.{Bench}
 use Rattle.state.specs.declared.Stepped.{Stepped}
-use Rattle.state.specs.State.{freshReplica, fresh}
+use Rattle.state.specs.State.{State, freshReplica, fresh}
 use Rattle.state.specs.Step.{check}
 use Rattle.state.specs.Tabled.{benchOf}
 
@@ -25,6 +25,13 @@ noBench =
       replicas = replicate 7 freshReplica;
     }
 
+abbrev pub replied : ℕ → Bench → Stepped
+replied refusal bench = record { refusal = refusal; bench = bench }
+
+-- a bench in this state, or, refused, none
+unfoldable pub startedBy : ℕ → State → Stepped
+startedBy refusal s = replied refusal (cond (eqb refusal 0) (benchOf s) noBench)
+
 -- from n, m, and the lengths of the two tables
 abbrev pub startRefusal : ℕ → ℕ → ℕ → ℕ → ℕ
 startRefusal n m messages rows =
@@ -36,8 +43,4 @@ unfoldable pub starts : ℕ → ℕ → ℕ → ℕ → Bool
 starts n m messages rows = eqb (startRefusal n m messages rows) 0
 
 unfoldable pub startReply : ℕ → ℕ → ℕ → ℕ → Stepped
-startReply n m messages rows =
-    record {
-      refusal = startRefusal n m messages rows;
-      bench = cond (starts n m messages rows) (benchOf (fresh n m)) noBench;
-    }
+startReply n m messages rows = startedBy (startRefusal n m messages rows) (fresh n m)

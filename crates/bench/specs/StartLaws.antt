@@ -12,11 +12,10 @@ use Rattle.words.specs.RangeLaws.{and-left, and-right}
 use Rattle.tables.specs.declared.Row.{Row}
 use Rattle.tables.specs.Tables.{emptyMessage, emptyRow}
 use Rattle.state.specs.declared.Bench.{Bench}
-use Rattle.state.specs.declared.Stepped.{Stepped}
-use Rattle.state.specs.State.{fresh}
+use Rattle.state.specs.State.{State, fresh}
 use Rattle.state.specs.Step.{check}
 use Rattle.state.specs.Tabled.{benchOf}
-use Rattle.bench.specs.Start.{noBench, startRefusal, starts, startReply}
+use Rattle.bench.specs.Start.{noBench, replied, startedBy, starts}
 
 -- ---- the first check that holds, from what the three tests say
 
@@ -41,25 +40,19 @@ first-tables : (a b c : Bool) → eqb (firstOf a b c) 0 ≡ true → a ≡ true
 first-tables true b c e = refl
 first-tables false b c e = absurd (true≢false (sym e))
 
--- ---- the reply
+-- ---- the reply, from the number that the checks gave
 
-abbrev replied : ℕ → Bench → Stepped
-replied refusal bench = record { refusal = refusal; bench = bench }
+module _ (number k : ℕ) (e : number ≡ k) (s : State) where
+  tested : (t : Bool) → eqb number 0 ≡ t → cond (eqb k 0) (benchOf s) noBench ≡ cond t (benchOf s) noBench
+  tested t p = ap (λ (u : Bool). cond u (benchOf s) noBench) (ap (λ (j : ℕ). eqb j 0) (sym e) ∙ p)
 
-module _ (n m messages rows k : ℕ) (e : k ≡ startRefusal n m messages rows) where
-  starts-as : (t : Bool) → eqb k 0 ≡ t → starts n m messages rows ≡ t
-  unfolding starts
-  starts-as t p = ap (λ (j : ℕ). eqb j 0) (sym e) ∙ p
+  pub accepted-reply : eqb number 0 ≡ true → (bench : Bench) → bench ≡ benchOf s → replied 0 bench ≡ startedBy k s
+  unfolding startedBy
+  accepted-reply p bench f = ap (λ (j : ℕ). replied j bench) (sym (eqb-true number 0 p) ∙ e) ∙ ap (replied k) (f ∙ sym (tested true p))
 
-  pub accepted-reply : eqb k 0 ≡ true → (bench : Bench) → bench ≡ benchOf (fresh n m) → replied 0 bench ≡ startReply n m messages rows
-  unfolding startReply
-  accepted-reply p bench f =
-      ap (λ (j : ℕ). replied j bench) (sym (eqb-true k 0 p) ∙ e) ∙ ap (replied (startRefusal n m messages rows)) (f ∙ ap (λ (t : Bool). cond t (benchOf (fresh n m)) noBench) (sym (starts-as true p)))
-
-  pub refused-reply : eqb k 0 ≡ false → (bench : Bench) → bench ≡ benchOf (fresh 0 0) → replied k bench ≡ startReply n m messages rows
-  unfolding startReply
-  refused-reply p bench f =
-      ap (λ (j : ℕ). replied j bench) e ∙ ap (replied (startRefusal n m messages rows)) (f ∙ ap (λ (t : Bool). cond t (benchOf (fresh n m)) noBench) (sym (starts-as false p)))
+  pub refused-reply : eqb number 0 ≡ false → (bench : Bench) → bench ≡ benchOf (fresh 0 0) → replied number bench ≡ startedBy k s
+  unfolding startedBy
+  refused-reply p bench f = ap (λ (j : ℕ). replied j bench) e ∙ ap (replied k) (f ∙ sym (tested false p))
 
 -- ---- the tables
 
@@ -88,11 +81,3 @@ module _ (n m : ℕ) (messages : List Message) (rows : List Row) (t : Bool) (e :
   rows-cleared zs f =
       f ∙ cleared emptyRow t (length rows) 1024 rows (λ p. rows-length n m (length messages) (length rows) (sym e ∙ p))
       ∙ ap (λ (u : Bool). cond u (replicate 1024 emptyRow) rows) e
-
--- ---- a test's two ways
-
-pub if-true : {A : Type 0} (t : Bool) (x y r : A) → t ≡ true → r ≡ x → r ≡ cond t x y
-if-true t x y r e f = f ∙ ap (λ (u : Bool). cond u x y) (sym e)
-
-pub if-false : {A : Type 0} (t : Bool) (x y r : A) → t ≡ false → r ≡ y → r ≡ cond t x y
-if-false t x y r e f = f ∙ ap (λ (u : Bool). cond u x y) (sym e)

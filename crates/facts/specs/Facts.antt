@@ -24,10 +24,11 @@ use Rattle.placing.specs.OneOrder.{point, orderKey, placed, oneOrder}
 use Rattle.order.specs.Operations.{orderOf}
 use Rattle.format.specs.Format.{fileRefusal, eventAt}
 use Rattle.schedule.specs.Run.{ranFrom}
+use Rattle.schedule.specs.Opening.{ranFile}
 use Rattle.facts.specs.Case.{Case, Hold, _by_also_}
 use Rattle.facts.specs.Events.{read, write, numbers, deliverable, writeAlone, afterWrite, readBehind, afterRead, writeOfTwo, afterCrash, twice}
 use Rattle.facts.specs.Crowded.{strays, crowded, asking, fourth, deciding}
-use Rattle.facts.specs.Situations.{pairOf, received, overtaken, pointsOf, sevenBytes, fileRun}
+use Rattle.facts.specs.Situations.{pairOf, received, overtaken, pointsOf, sevenBytes}
 
 abbrev pub P1 : Case
 P1 =
@@ -143,9 +144,9 @@ P12 =
       fact = "P12 the bytes 00 00 00 03 01 01 01: 0 events accepted, empty order";
       says =
           (fileRefusal sevenBytes ≡ 0)
-          × (fileRun sevenBytes .refusal ≡ 0)
-          × (fileRun sevenBytes .state .accepted ≡ 0)
-          × (orderOf (fileRun sevenBytes .state .rows) ≡ []);
+          × (ranFile sevenBytes .refusal ≡ 0)
+          × (ranFile sevenBytes .state .accepted ≡ 0)
+          × (orderOf (ranFile sevenBytes .state .rows) ≡ []);
     }
 
 abbrev pub cases : List Case
@@ -155,7 +156,7 @@ pub facts : Hold cases
 unfolding joined ones below newer beginRefusal downRefusal readRule readRefusal readBegun writeRule writeRefusal writeBegun
     queryRule queryRefusal queryReceived updateRule updateRefusal updateReceived responseCounted responseRule responseRefusal responseReceived
     ackCounted ackRule ackRefusal ackReceived crashRule crashRefusal crashed step stepRead stepWrite stepDeliver stepCrash
-    wellFormed countsFit flightFits historyFits replicasFit point orderKey placed oneOrder fileRefusal eventAt ranFrom
+    wellFormed countsFit flightFits historyFits replicasFit point orderKey placed oneOrder fileRefusal eventAt ranFrom ranFile
     strays crowded asking fourth deciding
 facts =
     P1 by refl

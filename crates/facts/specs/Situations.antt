@@ -12,12 +12,9 @@ use Rattle.replica.specs.declared.Phase.the-variants.{Idle}
 use Rattle.replica.specs.declared.Replica.{Replica}
 use Rattle.replica.specs.Handlers.{updateReceived}
 use Rattle.tables.specs.declared.Row.{Row}
-use Rattle.state.specs.State.{fresh}
 use Rattle.state.specs.Step.{readRow, writeRow, completed}
 use Rattle.placing.specs.OneOrder.{listing, point, placed}
 use Rattle.order.specs.Operations.{operationsOf}
-use Rattle.format.specs.Format.{byteAt}
-use Rattle.schedule.specs.Run.{Ran, ran}
 
 -- ---- P4
 
@@ -55,7 +52,3 @@ pointsOf rows = map (point (listing (operationsOf rows))) (placed (operationsOf 
 
 abbrev pub sevenBytes : List ℕ
 sevenBytes = 0 ∷ 0 ∷ 0 ∷ 3 ∷ 1 ∷ 1 ∷ 1 ∷ []
-
--- a file's N and M start a bench, and its events are run, from the eighth byte on
-abbrev pub fileRun : List ℕ → Ran
-fileRun bytes = ran bytes 7 (fresh (byteAt bytes 5) (byteAt bytes 6))

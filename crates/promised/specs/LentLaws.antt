@@ -22,7 +22,7 @@ use Rattle.advance.specs.TabledLaws.{Holds, holds-tabled, holds-view}
 use Rattle.placing.specs.Sequential.{Sequential}
 use Rattle.placing.specs.RealTime.{RealTime}
 use Rattle.order.specs.Operations.{operationsOf, orderOf}
-use Rattle.bench.specs.Start.{starts, startReply}
+use Rattle.bench.specs.Start.{startedBy, startReply}
 use Rattle.bench.specs.Reply.{stepReply, stepMessages, stepRows}
 use Rattle.bench.specs.Listing.{listReply, listLeft, listedReply, laidNumbers}
 use Rattle.consistency.specs.Demand3.{sequential, realTime}
@@ -38,11 +38,11 @@ unrefused false some z = absurd (eqb-false 4 0 refl z)
 
 module _ (n m : ℕ) (z : startReply n m 512 1024 .refusal ≡ 0) where
   ranges : (within n 7 ≡ true) × (within m 16 ≡ true)
-  unfolding startReply
+  unfolding startReply startedBy
   ranges = unrefused (within n 7) (within m 16) z
 
   fresh-bench : startReply n m 512 1024 .bench ≡ benchOf (fresh n m)
-  unfolding startReply starts
+  unfolding startReply startedBy
   fresh-bench = rw (ranges .0, ranges .1) refl
 
 -- an accepted step of tables that hold a state leaves tables that hold the next

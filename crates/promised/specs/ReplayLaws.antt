@@ -1,7 +1,7 @@
 -- Demand 3 of the replay, for every file of bytes: what it prints is the number of a refusal, or the text of a state and an order such that the order explains the state's history.
 use Prim.Native.Nat.{ℕ}
-use mathlib.Core.Path.{_≡_, refl, sym, ap, _∙_}
-use mathlib.Core.Bool.{Bool, true, false, cond}
+use mathlib.Core.Path.{_≡_, refl}
+use mathlib.Core.Bool.{Bool, true, false}
 use mathlib.Core.List.{List}
 use lib.Dec.{eqb}
 use lib.IntN.{pos}
@@ -18,6 +18,7 @@ use Rattle.schedule.specs.Opening.{ranFile}
 use Rattle.schedule.specs.FileLaws.{file-reached}
 use Rattle.consistency.specs.Demand3.{sequential, realTime}
 use Rattle.replaying.specs.Replayed.{replayed}
+use Rattle.replaying.specs.ReplayedLaws.{replayed-run, replayed-refused}
 
 -- a text that tells of a history and of an order that explains it
 pub record Explains (text : List ℕ) : Type 0 where
@@ -39,13 +40,6 @@ pub data Told (text : List ℕ) : Type 0 where
   refuses : Refuses text → Told text
 
 module _ (bytes : List ℕ) where
-  abbrev chosen : Bool → List ℕ
-  chosen t = cond t (printed (ranFile bytes .state) (ranFile bytes .refusal) (orderOf (ranFile bytes .state .rows))) (printedRefusal (fileRefusal bytes))
-
-  is-chosen : (t : Bool) → eqb (fileRefusal bytes) 0 ≡ t → replayed bytes ≡ chosen t
-  unfolding replayed
-  is-chosen t e = ap chosen e
-
   run-reached : eqb (fileRefusal bytes) 0 ≡ true → Reached (ranFile bytes .state)
   run-reached e = file-reached bytes (file-opens bytes (eqb-true (fileRefusal bytes) 0 e))
 
@@ -59,9 +53,9 @@ module _ (bytes : List ℕ) where
             state = ranFile bytes .state;
             refusal = ranFile bytes .refusal;
             order = orderOf (ranFile bytes .state .rows);
-            told = is-chosen true e;
+            told = replayed-run bytes e;
             reached = run-reached e;
             consistent = sequential (ranFile bytes .state) (run-reached e);
             in-time = realTime (ranFile bytes .state) (run-reached e);
           })
-      go false e = refuses (record { number = fileRefusal bytes; told = is-chosen false e })
+      go false e = refuses (record { number = fileRefusal bytes; told = replayed-refused bytes e })

@@ -23,11 +23,11 @@ use Rattle.state.specs.Reached.{Reached}
 use Rattle.advance.specs.TabledLaws.{Holds, holds-tabled, holds-view}
 use Rattle.order.specs.Operations.{orderOf}
 use Rattle.order.specs.Keys.{rowRanged}
-use Rattle.bench.specs.Start.{noBench}
+use Rattle.bench.specs.Start.{noBench, replied}
 use Rattle.bench.specs.ListingLaws.{rows-1024, count-1024, rows-ranged}
 use Rattle.format.specs.Format.{fileRefusal}
 use Rattle.format.specs.FileLaws.{file-opens}
-use Rattle.schedule.specs.Opening.{openingRefusal, opens, ranFile, replied, runReply, runRows}
+use Rattle.schedule.specs.Opening.{openingRefusal, opens, ranFile, runReply, runRows}
 use Rattle.schedule.specs.FileLaws.{Played, file-reached}
 use Rattle.text.specs.Printed.{printed, printedRefusal}
 use Rattle.text.specs.Written.{Wrote}
@@ -58,6 +58,21 @@ module _ (count : ℕ) (order listing : List ℕ) (c : count ≡ length order) (
 
 abbrev stopped : List ℕ → State
 stopped bytes = ranFile bytes .state
+
+-- the two texts
+module _ (bytes : List ℕ) where
+  abbrev of-run : List ℕ
+  of-run = printed (stopped bytes) (ranFile bytes .refusal) (orderOf (stopped bytes .rows))
+
+  by-test : (t : Bool) → eqb (fileRefusal bytes) 0 ≡ t → replayed bytes ≡ cond t of-run (printedRefusal (fileRefusal bytes))
+  unfolding replayed
+  by-test t e = ap (λ (u : Bool). cond u of-run (printedRefusal (fileRefusal bytes))) e
+
+  pub replayed-run : eqb (fileRefusal bytes) 0 ≡ true → replayed bytes ≡ printed (ranFile bytes .state) (ranFile bytes .refusal) (orderOf (ranFile bytes .state .rows))
+  replayed-run e = by-test true e
+
+  pub replayed-refused : eqb (fileRefusal bytes) 0 ≡ false → replayed bytes ≡ printedRefusal (fileRefusal bytes)
+  replayed-refused e = by-test false e
 
 -- the bench and the history hold the state that the run stopped at
 pub record Stopped (bytes : List ℕ) (r : Stepped) (rows : List Row) : Type 0 where
@@ -164,12 +179,9 @@ module _ (bytes : List ℕ) (r : Stepped) (rows : List Row) (s : Stopped bytes r
   in-flight = subst (λ (b : Bench). b .flight ≤ length (laidMessages (stopped bytes))) (sym (s .bench)) (omega (arith, length-append (stopped bytes .flight) (replicate (512 - length (stopped bytes .flight)) emptyMessage)))
 
   pub text-of : (numbers : List ℕ) → numbers ≡ orderOf (take (r .bench .rows) rows) → (xs ys : List ℕ) (end : ℕ) → Reported (r .bench) (r .refusal) rows numbers xs ys end → Wrote 0 (replayed bytes) 81563 xs ys end
-  unfolding replayed
-  text-of numbers o xs ys end w = subst (λ (text : List ℕ). Wrote 0 text 81563 xs ys end) (same ∙ ap chosen (sym (eq-eqb (fileRefusal bytes) 0 (s .file)))) (w (laidMessages (stopped bytes)) in-flight)
+  text-of numbers o xs ys end w =
+      subst (λ (text : List ℕ). Wrote 0 text 81563 xs ys end) (same ∙ sym (replayed-run bytes (eq-eqb (fileRefusal bytes) 0 (s .file)))) (w (laidMessages (stopped bytes)) in-flight)
     where
-      chosen : Bool → List ℕ
-      chosen t = cond t (printed (stopped bytes) (ranFile bytes .refusal) (orderOf (stopped bytes .rows))) (printedRefusal (fileRefusal bytes))
-
       same : printed (view (r .bench) (laidMessages (stopped bytes)) rows) (r .refusal) numbers ≡ printed (stopped bytes) (ranFile bytes .refusal) (orderOf (stopped bytes .rows))
       same =
           ap (λ (t : State). printed t (r .refusal) numbers) view-is ∙ ap (λ (k : ℕ). printed (stopped bytes) k numbers) (s .refusal)
@@ -196,12 +208,9 @@ module _ (bytes : List ℕ) (rows : List Row) (long : length rows ≡ 1024) (r :
           impossible l q = omega (arith, l, q)
 
   pub text-refused : not (eqb (r .bench .n) 0) ≡ false → (xs ys : List ℕ) (end : ℕ) → Wrote 0 (printedRefusal (r .refusal)) 14 xs ys end → Wrote 0 (replayed bytes) 81563 xs ys end
-  unfolding replayed
-  text-refused h xs ys end w = subst (λ (text : List ℕ). Wrote 0 text 81563 xs ys end) (ap printedRefusal (number-given bytes rows long r e rows′ f (unbegun h)) ∙ ap chosen (sym (unbegun h))) (widened w)
+  text-refused h xs ys end w =
+      subst (λ (text : List ℕ). Wrote 0 text 81563 xs ys end) (ap printedRefusal (number-given bytes rows long r e rows′ f (unbegun h)) ∙ sym (replayed-refused bytes (unbegun h))) (widened w)
     where
-      chosen : Bool → List ℕ
-      chosen t = cond t (printed (stopped bytes) (ranFile bytes .refusal) (orderOf (stopped bytes .rows))) (printedRefusal (fileRefusal bytes))
-
       widened : Wrote 0 (printedRefusal (r .refusal)) 14 xs ys end → Wrote 0 (printedRefusal (r .refusal)) 81563 xs ys end
       widened v = record { ends = v .ends; lays = v .lays; short = omega (arith, v .short); room = v .room }
 

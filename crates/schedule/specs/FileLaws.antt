@@ -20,11 +20,12 @@ use Rattle.state.specs.Reached.{Reached, start}
 use Rattle.advance.specs.TabledLaws.{Holds, holds-tabled, holds-view}
 use Rattle.format.specs.Format.{byteAt}
 use Rattle.format.specs.FileLaws.{Opens}
-use Rattle.bench.specs.Start.{noBench}
+use Rattle.bench.specs.Start.{noBench, replied, startedBy}
+use Rattle.bench.specs.ReplyLaws.{same, pick}
 use Rattle.schedule.specs.Run.{Ran, ran}
 use Rattle.schedule.specs.RunLaws.{run-reached}
 use Rattle.schedule.specs.Turns.{RanOn}
-use Rattle.schedule.specs.Opening.{openingRefusal, opens, begun, opened, ranFile, replied, runReply, runMessages, runRows}
+use Rattle.schedule.specs.Opening.{openingRefusal, opens, begun, opened, ranFile, runReply, runMessages, runRows}
 use Rattle.schedule.specs.OpeningLaws.{places-fit, history-fits, opens-file}
 
 -- what `run` promises
@@ -42,16 +43,12 @@ pub file-reached : (bytes : List ℕ) → Opens bytes → Reached (ranFile bytes
 unfolding ranFile
 file-reached bytes o = run-reached bytes 7 (begun bytes) (begun-reached bytes o)
 
--- a reply, from its two parts
-both-parts : (r : Stepped) (k : ℕ) (b : Bench) → r .refusal ≡ k → r .bench ≡ b → r ≡ replied k b
-both-parts r k b p q = ap (λ (j : ℕ). replied j (r .bench)) p ∙ ap (replied k) q
-
 module _ (messages : List Message) (rows : List Row) (bytes : List ℕ) (s : Stepped) (e : s ≡ opened (length messages) (length rows) bytes) where
   abbrev number : ℕ
   number = openingRefusal (length messages) (length rows) bytes
 
   refusal-is : s .refusal ≡ number
-  unfolding opened
+  unfolding opened startedBy
   refusal-is = ap (λ (x : Stepped). x .refusal) e
 
   module _ (z : eqb (s .refusal) 0 ≡ true) where
@@ -66,7 +63,7 @@ module _ (messages : List Message) (rows : List Row) (bytes : List ℕ) (s : Ste
 
     module _ (b : Bench) (f : b ≡ s .bench) where
       bench-is : b ≡ benchOf (begun bytes)
-      unfolding opened
+      unfolding opened startedBy
       bench-is = f ∙ ap (λ (x : Stepped). x .bench) e ∙ ap (λ (t : Bool). cond t (benchOf (begun bytes)) noBench) told
 
       starts : Holds (begun bytes) b (replicate (length messages) emptyMessage) (replicate (length rows) emptyRow)
@@ -91,12 +88,12 @@ module _ (messages : List Message) (rows : List Row) (bytes : List ℕ) (s : Ste
       played r messages′ rows′ a =
           record {
             reply =
-                both-parts r (ranFile bytes .refusal) (benchOf (ranFile bytes .state)) (a .refusal ∙ ap (λ (x : Ran). x .refusal) from-fresh)
-                (a .bench ∙ ap (λ (x : Ran). benchOf (x .state)) from-fresh)
-                ∙ ap (λ (t : Bool). cond t (replied (ranFile bytes .refusal) (benchOf (ranFile bytes .state))) (replied number noBench)) (sym told);
+                pick _ true (replied (ranFile bytes .refusal) (benchOf (ranFile bytes .state))) (replied number noBench) r told
+                (same r (ranFile bytes .refusal) (benchOf (ranFile bytes .state)) (a .refusal ∙ ap (λ (x : Ran). x .refusal) from-fresh)
+                (a .bench ∙ ap (λ (x : Ran). benchOf (x .state)) from-fresh));
             messages-left =
-                a .messages-laid ∙ ap (λ (x : Ran). laidMessages (x .state)) from-fresh ∙ ap (λ (t : Bool). cond t (laidMessages (ranFile bytes .state)) messages) (sym told);
-            rows-left = a .rows-laid ∙ ap (λ (x : Ran). laidRows (x .state)) from-fresh ∙ ap (λ (t : Bool). cond t (laidRows (ranFile bytes .state)) rows) (sym told);
+                pick _ true (laidMessages (ranFile bytes .state)) messages messages′ told (a .messages-laid ∙ ap (λ (x : Ran). laidMessages (x .state)) from-fresh);
+            rows-left = pick _ true (laidRows (ranFile bytes .state)) rows rows′ told (a .rows-laid ∙ ap (λ (x : Ran). laidRows (x .state)) from-fresh);
           }
 
   -- ---- a file that does not
@@ -106,7 +103,7 @@ module _ (messages : List Message) (rows : List Row) (bytes : List ℕ) (s : Ste
     untold = ap (λ (k : ℕ). eqb k 0) (sym refusal-is) ∙ z
 
     no-bench : s .bench ≡ noBench
-    unfolding opened
+    unfolding opened startedBy
     no-bench = ap (λ (x : Stepped). x .bench) e ∙ ap (λ (t : Bool). cond t (benchOf (begun bytes)) noBench) untold
 
     pub unplayed : Played bytes messages rows s messages rows
@@ -114,8 +111,8 @@ module _ (messages : List Message) (rows : List Row) (bytes : List ℕ) (s : Ste
     unplayed =
         record {
           reply =
-              both-parts s number noBench refusal-is no-bench
-              ∙ ap (λ (t : Bool). cond t (replied (ranFile bytes .refusal) (benchOf (ranFile bytes .state))) (replied number noBench)) (sym untold);
-          messages-left = ap (λ (t : Bool). cond t (laidMessages (ranFile bytes .state)) messages) (sym untold);
-          rows-left = ap (λ (t : Bool). cond t (laidRows (ranFile bytes .state)) rows) (sym untold);
+              pick _ false (replied (ranFile bytes .refusal) (benchOf (ranFile bytes .state))) (replied number noBench) s untold
+              (same s number noBench refusal-is no-bench);
+          messages-left = pick _ false (laidMessages (ranFile bytes .state)) messages messages untold refl;
+          rows-left = pick _ false (laidRows (ranFile bytes .state)) rows rows untold refl;
         }

@@ -6,13 +6,12 @@ use lib.Dec.{eqb}
 use lib.ListN.{length}
 use Rattle.words.specs.declared.Message.{Message}
 use Rattle.tables.specs.declared.Row.{Row}
-use Rattle.state.specs.declared.Bench.{Bench}
 use Rattle.state.specs.declared.Stepped.{Stepped}
 use Rattle.state.specs.State.{State, fresh, laidMessages, laidRows}
 use Rattle.state.specs.Step.{check}
 use Rattle.state.specs.Tabled.{benchOf}
 use Rattle.format.specs.Format.{byteAt, fileRefusal}
-use Rattle.bench.specs.Start.{noBench}
+use Rattle.bench.specs.Start.{noBench, replied, startedBy}
 use Rattle.schedule.specs.Run.{Ran, ran}
 
 -- ---- how a file opens
@@ -29,20 +28,13 @@ abbrev pub begun : List ℕ → State
 begun bytes = fresh (byteAt bytes 5) (byteAt bytes 6)
 
 unfoldable pub opened : ℕ → ℕ → List ℕ → Stepped
-opened places history bytes =
-    record {
-      refusal = openingRefusal places history bytes;
-      bench = cond (opens places history bytes) (benchOf (begun bytes)) noBench;
-    }
+opened places history bytes = startedBy (openingRefusal places history bytes) (begun bytes)
 
 -- ---- the run of a whole file
 
 -- its events stand behind length, version, N and M
 unfoldable pub ranFile : List ℕ → Ran
 ranFile bytes = ran bytes 7 (begun bytes)
-
-abbrev pub replied : ℕ → Bench → Stepped
-replied refusal bench = record { refusal = refusal; bench = bench }
 
 unfoldable pub runReply : ℕ → ℕ → List ℕ → Stepped
 runReply places history bytes =

@@ -1,22 +1,17 @@
--- How a file opens, from its checks; and what a file that opens has.
+-- The first check of a file that holds, from what its tests say; and what a file that opens has.
 use Prim.Native.Nat.{ℕ, _<_}
 use mathlib.Core.Path.{_≡_, refl, sym, ap, _∙_}
-use mathlib.Core.Bool.{Bool, true, false, cond, not, _&&_}
+use mathlib.Core.Bool.{Bool, true, false, not, _&&_}
 use mathlib.Core.List.{List}
 use native.Mathlib.Omega.{arith}
 use lib.Dec.{eqb}
 use lib.ListN.{length}
 use borrow.Author.Tests.{eqb-true, eqb-false}
 use Rattle.words.specs.RangeLaws.{and-left, and-right}
-use Rattle.state.specs.declared.Bench.{Bench}
-use Rattle.state.specs.declared.Stepped.{Stepped}
-use Rattle.state.specs.State.{fresh}
 use Rattle.state.specs.Step.{check}
-use Rattle.state.specs.Tabled.{benchOf}
 use Rattle.format.specs.Format.{fileRefusal}
 use Rattle.format.specs.FileLaws.{Opens, file-opens}
-use Rattle.bench.specs.Start.{noBench}
-use Rattle.schedule.specs.Opening.{openingRefusal, opens, begun, opened, replied}
+use Rattle.schedule.specs.Opening.{openingRefusal}
 
 -- ---- the first check that holds
 
@@ -49,21 +44,3 @@ module _ (places history : ℕ) (bytes : List ℕ) where
 
   pub opens-file : openingRefusal places history bytes ≡ 0 → Opens bytes
   opens-file z = file-opens bytes (checked z .1)
-
-  -- ---- the reply
-
-  module _ (k : ℕ) (e : k ≡ openingRefusal places history bytes) where
-    opens-as : (t : Bool) → eqb k 0 ≡ t → opens places history bytes ≡ t
-    opens-as t p = ap (λ (j : ℕ). eqb j 0) (sym e) ∙ p
-
-    pub accepted : eqb k 0 ≡ true → (bench : Bench) → bench ≡ benchOf (begun bytes) → replied 0 bench ≡ opened places history bytes
-    unfolding opened
-    accepted p bench f =
-        ap (λ (j : ℕ). replied j bench) (sym (eqb-true k 0 p) ∙ e)
-        ∙ ap (replied (openingRefusal places history bytes)) (f ∙ ap (λ (t : Bool). cond t (benchOf (begun bytes)) noBench) (sym (opens-as true p)))
-
-    pub refused : eqb k 0 ≡ false → (bench : Bench) → bench ≡ benchOf (fresh 0 0) → replied k bench ≡ opened places history bytes
-    unfolding opened
-    refused p bench f =
-        ap (λ (j : ℕ). replied j bench) e
-        ∙ ap (replied (openingRefusal places history bytes)) (f ∙ ap (λ (t : Bool). cond t (benchOf (begun bytes)) noBench) (sym (opens-as false p)))

@@ -1,4 +1,5 @@
 -- `bench::replies::start_reply` meets its contract.
+use Rattle.bench.specs.Start.{startReply}
 use Rattle.bench.specs.StartLaws.{accepted-reply, refused-reply}
 use borrow.Author.Tests.{eq-eqb, ne-eqb}
 use borrow.Author.Needs.{needs}
@@ -12,13 +13,15 @@ fresh-bench-requires : tie.Need-fresh-bench-requires
 fresh-bench-requires c κs = search needs
 
 returns : tie.Need-returns
-returns c = accepted-reply _ _ _ _ _ (c .before .before .start-refusal .ensures) (eq-eqb _ _ (c .before .if1 .taken)) _ (c .fresh-bench .ensures)
+unfolding startReply
+returns c = accepted-reply _ _ (c .before .before .start-refusal .ensures) _ (eq-eqb _ _ (c .before .if1 .taken)) _ (c .fresh-bench .ensures)
 
 fresh-bench-requires-2 : tie.Need-fresh-bench-requires-2
 fresh-bench-requires-2 c κs = search needs
 
 returns-2 : tie.Need-returns-2
-returns-2 c = refused-reply _ _ _ _ _ (c .before .before .start-refusal .ensures) (ne-eqb _ _ (c .before .if1 .left)) _ (c .fresh-bench2 .ensures)
+unfolding startReply
+returns-2 c = refused-reply _ _ (c .before .before .start-refusal .ensures) _ (ne-eqb _ _ (c .before .if1 .left)) _ (c .fresh-bench2 .ensures)
 
 pub start-reply-spec : {M : Type 1} → statement M
 start-reply-spec =

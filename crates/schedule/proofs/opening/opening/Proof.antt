@@ -3,7 +3,9 @@ use Prim.Native.Nat.{_≤_}
 use mathlib.Core.Path.{sym, _∙_}
 use native.Mathlib.Omega.{arith}
 use lib.ListN.{length}
-use Rattle.schedule.specs.OpeningLaws.{accepted, refused, opens-file}
+use Rattle.bench.specs.StartLaws.{accepted-reply, refused-reply}
+use Rattle.schedule.specs.Opening.{opened}
+use Rattle.schedule.specs.OpeningLaws.{opens-file}
 use borrow.Author.Tests.{eq-eqb, ne-eqb}
 use borrow.Author.Needs.{needs}
 use Rattle.schedule.proofs.opening.opening.Statement.{statement}
@@ -23,13 +25,15 @@ fresh-bench-requires : tie.Need-fresh-bench-requires
 fresh-bench-requires c κs = search needs
 
 returns : tie.Need-returns
-returns c = accepted _ _ _ _ (c .before .before .before .before .opening-refusal .ensures) (eq-eqb _ _ (c .before .before .before .if1 .taken)) _ (c .fresh-bench .ensures)
+unfolding opened
+returns c = accepted-reply _ _ (c .before .before .before .before .opening-refusal .ensures) _ (eq-eqb _ _ (c .before .before .before .if1 .taken)) _ (c .fresh-bench .ensures)
 
 fresh-bench-requires-2 : tie.Need-fresh-bench-requires-2
 fresh-bench-requires-2 c κs = search needs
 
 returns-2 : tie.Need-returns-2
-returns-2 c = refused _ _ _ _ (c .before .before .opening-refusal .ensures) (ne-eqb _ _ (c .before .if1 .left)) _ (c .fresh-bench2 .ensures)
+unfolding opened
+returns-2 c = refused-reply _ _ (c .before .before .opening-refusal .ensures) _ (ne-eqb _ _ (c .before .if1 .left)) _ (c .fresh-bench2 .ensures)
 
 pub opening-spec : {M : Type 1} → statement M
 opening-spec =
