@@ -4,9 +4,8 @@
 set -u
 cd "$(dirname "$0")/.."
 
-program=target/bin/replay
-if [ ! -x "$program" ]; then
-    echo "vectors/compare.sh: there is no $program: run 'rt check replay' first" >&2
+if [ ! -x target/bin/replay ]; then
+    echo "vectors/compare.sh: there is no target/bin/replay: run 'rt check replay' first" >&2
     echo "0 passed, 1 failed"
     exit 1
 fi
@@ -16,7 +15,7 @@ trap 'rm -f "$printed"' EXIT
 passed=0
 failed=0
 for schedule in vectors/*.schedule examples/*.schedule; do
-    if "$program" <"$schedule" >"$printed" && cmp -s "$printed" "${schedule%.schedule}.expected"; then
+    if tools/run.sh replay <"$schedule" >"$printed" && cmp -s "$printed" "${schedule%.schedule}.expected"; then
         passed=$((passed + 1))
     else
         failed=$((failed + 1))
