@@ -18,7 +18,7 @@ use Rattle.state.specs.Accepted.{Invoked, messageAt, recipientAt, plain}
 use Rattle.state.specs.KeepsMoved.{posted-length}
 use Rattle.state.specs.PairLaws.{Within, within-ok}
 use Rattle.state.specs.WellLaws.{Well}
-use Rattle.sc_abd.specs.System.{Call, System, Action, Enabled, without, received, outstanding, taken}
+use Rattle.sc_abd.specs.System.{Call, System, Action, Enabled, without, onArrival, outstanding, taken}
 use Rattle.sc_abd.specs.Same.{packetOf, operationOf, Same}
 use Rattle.sc_abd.specs.Demand2.{Names, registerOf, Within as Limited}
 use Rattle.sc_abd.specs.Allowed.{done, read-allowed, write-allowed, deliver-allowed, crash-allowed, lose-allowed}
@@ -67,11 +67,11 @@ module _ (s : State) (w : Well s) (n : Numbered s) (short : length (s .rows) ≤
     in-flight = let e : length (map packetOf (s .flight)) ≡ length (a .transit) = ap length (same .flight) in omega (arith, length-map (s .flight) packetOf)
 
     -- as many messages are sent as the algorithm sends
-    sends-alike : sentBy (s .n) (plain s (recipientAt s i) (messageAt s i) .sends) ≡ length (received a i .sends)
+    sends-alike : sentBy (s .n) (plain s (recipientAt s i) (messageAt s i) .sends) ≡ length (onArrival a i .sends)
     sends-alike =
         let sent = posted s (messageAt s i .to .0) (plain s (recipientAt s i) (messageAt s i) .sends) in
         let left = removed i (s .flight) in
-        let all : length (map packetOf (left ++ sent)) ≡ length (without i (a .transit) ++ received a i .sends) =
+        let all : length (map packetOf (left ++ sent)) ≡ length (without i (a .transit) ++ onArrival a i .sends) =
         ap length (same-receive s w n a same i in-flight .flight) in
         let rest : length (map packetOf left) ≡ length (without i (a .transit)) = ap length (packets-without i (s .flight) ∙ ap (without i) (same .flight)) in
         omega (
@@ -79,7 +79,7 @@ module _ (s : State) (w : Well s) (n : Numbered s) (short : length (s .rows) ≤
           length-map (left ++ sent) packetOf,
           length-append left sent,
           length-map left packetOf,
-          length-append (without i (a .transit)) (received a i .sends),
+          length-append (without i (a .transit)) (onArrival a i .sends),
           posted-length s (messageAt s i .to .0) (plain s (recipientAt s i) (messageAt s i) .sends),
         )
 

@@ -13,7 +13,7 @@ use Rattle.state.specs.declared.Event.{Event}
 use Rattle.state.specs.declared.Event.the-variants.{Read, Write, Deliver, Crash, Lose}
 use Rattle.state.specs.State.{State, fresh}
 use Rattle.state.specs.Step.{Outcome}
-use Rattle.sc_abd.specs.System.{Call, System, Action, Enabled, started, taken, received}
+use Rattle.sc_abd.specs.System.{Call, System, Action, Enabled, started, taken, onArrival}
 use Rattle.sc_abd.specs.Same.{Same}
 
 -- the step that an event names in a state: k names the place of message k
@@ -34,7 +34,7 @@ registerOf (Call.WRITE r v) = r
 abbrev pub WithinFor : State → System → Action → Type 0
 WithinFor s a (Action.invoke i call) =
     (within (registerOf call) (s .m) ≡ true) × (length (s .rows) < 1024) × (length (s .flight) + s .n ≤ 512)
-WithinFor s a (Action.receive place) = length (s .flight) - 1 + length (received a place .sends) ≤ 512
+WithinFor s a (Action.receive place) = length (s .flight) - 1 + length (onArrival a place .sends) ≤ 512
 WithinFor s a (Action.crash i) = Unit {0}
 WithinFor s a (Action.lose place) = Unit {0}
 

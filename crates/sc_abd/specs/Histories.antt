@@ -1,7 +1,7 @@
 -- The rows of a bench and the history of the system: an operation is outstanding where a row is pending, and the row that completes is the operation
 -- that is RETURNed.
 use Prim.Native.Nat.{ℕ, zero, suc, _+_, _≤_}
-use mathlib.Core.Path.{_≡_, refl, sym, ap, _∙_}
+use mathlib.Core.Path.{_≡_, refl, sym, ap, ap₂, _∙_}
 use mathlib.Core.Bool.{Bool, true, false, cond, not, _&&_, _||_}
 use mathlib.Core.List.{List, [], _∷_, map}
 use native.Mathlib.Omega.{arith}
@@ -16,27 +16,9 @@ use Rattle.tables.specs.Tables.{emptyRow}
 use Rattle.state.specs.Step.{kept, completed}
 use Rattle.state.specs.WellFormed.{pendingOf, isEmpty}
 use Rattle.state.specs.PendingLaws.{waits, pending-first}
-use Rattle.sc_abd.specs.Algorithm1.{Return}
-use Rattle.sc_abd.specs.System.{Operation, isOpen, outstanding, returning}
-use Rattle.sc_abd.specs.Same.{callOf, resultOf, returnedOf, operationOf}
-
--- ---- to be RETURNed nothing changes nothing
-
-pub returning-none : (p : ℕ) (history : List Operation) → returning p Return.none history ≡ history
-returning-none p [] = refl
-returning-none p (o ∷ rest) = go (o .returned) (eqb (o .process) p) (returning-none p rest)
-  where
-    said : Return → Operation
-    said r = record { process = o .process; call = o .call; returned = r }
-
-    go : (r : Return) (b : Bool) → returning p Return.none rest ≡ rest
-        → cond (b && isOpen r) (said Return.none ∷ rest) (said r ∷ returning p Return.none rest) ≡ said r ∷ rest
-    go Return.none true later = refl
-    go Return.none false later = ap (λ l. said Return.none ∷ l) later
-    go Return.OK true later = ap (λ l. said Return.OK ∷ l) later
-    go Return.OK false later = ap (λ l. said Return.OK ∷ l) later
-    go (Return.value v) true later = ap (λ l. said (Return.value v) ∷ l) later
-    go (Return.value v) false later = ap (λ l. said (Return.value v) ∷ l) later
+use Rattle.sc_abd.specs.Algorithm1.{Tsv, Return, Done}
+use Rattle.sc_abd.specs.System.{Operation, isOpen, outstanding, returnedBy, returning}
+use Rattle.sc_abd.specs.Same.{tsvOf, callOf, resultOf, returnedOf, operationOf}
 
 -- ---- an operation is open while its row has no answer
 
@@ -70,55 +52,56 @@ abbrev pub doneOf : Kind → Pair → Return
 doneOf Read pair = Return.value (pair .value)
 doneOf Write pair = Return.OK
 
-module _ (p : ℕ) (time : Time) (pair : Pair) (later : 1 ≤ time .0) where
-  -- a completed row is its operation, RETURNed
-  completed-operation : (r : Row)
-      → operationOf (completed r time pair) ≡ record { process = r .process .0; call = callOf (r .kind) r; returned = doneOf (r .kind) pair }
-  completed-operation r = go (r .kind) (time .0) later
-    where
-      done : Kind → Row
-      done k =
-          record {
-            process = r .process;
-            kind = k;
-            register = r .register;
-            invoked = r .invoked;
-            answered = time;
-            stamp = kept k r pair .stamp;
-            value = kept k r pair .value;
-          }
+-- a completed row is its operation, RETURNed by a handler that leaves this lt and this tsv
+pub completed-operation : (r : Row) (time : Time) (pair : Pair) (done : Done) → 1 ≤ time .0 → time .0 ≡ done .process .lt
+    → tsvOf (kept (r .kind) r pair) ≡ done .process .tsv → doneOf (r .kind) pair ≡ done .return
+    → operationOf (completed r time pair) ≡ returnedBy done (operationOf r)
+completed-operation r time pair done later lt tsv return =
+    go (r .kind) (time .0) later ∙ ap (λ t. said t (tsvOf (kept (r .kind) r pair)) (doneOf (r .kind) pair)) lt
+    ∙ ap₂ (said (done .process .lt)) tsv return
+  where
+    said : ℕ → Tsv → Return → Operation
+    said t v x = record { process = r .process .0; call = callOf (r .kind) r; invoked = r .invoked .0; answered = t; tsv = v; returned = x }
 
-      go : (k : Kind) (t : ℕ) → 1 ≤ t
-          → _≡_ {A = Operation} (record { process = r .process .0; call = callOf k (done k); returned = returnedOf t (done k) })
-          (record { process = r .process .0; call = callOf k r; returned = doneOf k pair })
-      go Read zero l = absurd (omega arith)
-      go Read (suc t) l = refl
-      go Write zero l = absurd (omega arith)
-      go Write (suc t) l = refl
+    new : Kind → ℕ → Row
+    new k t =
+        record {
+          process = r .process;
+          kind = k;
+          register = r .register;
+          invoked = r .invoked;
+          answered = record { 0 = t };
+          stamp = kept k r pair .stamp;
+          value = kept k r pair .value;
+        }
 
+    go : (k : Kind) (t : ℕ) → 1 ≤ t
+        → operationOf (new k t)
+        ≡ record { process = r .process .0; call = callOf k r; invoked = r .invoked .0; answered = t; tsv = tsvOf (kept k r pair); returned = doneOf k pair }
+    go Read zero l = absurd (omega arith)
+    go Read (suc t) l = refl
+    go Write zero l = absurd (omega arith)
+    go Write (suc t) l = refl
+
+module _ (p : ℕ) (done : Done) (new : Row) where
+  -- the first pending row of p is the operation that is RETURNed
   pub returning-row : (i j : ℕ) (rows : List Row) (rest : List ℕ) → pendingOf p i rows ≡ (i + j) ∷ rest
-      → map operationOf (set rows j (completed (getD rows j emptyRow) time pair))
-      ≡ returning p (doneOf (getD rows j emptyRow .kind) pair) (map operationOf rows)
-  returning-row i j [] rest e = let z : _≡_ {A = ℕ} 0 1 = cc in absurd (omega arith)
-  returning-row i zero (r ∷ rows) rest e = rw (completed-operation r, open-waits p r) (go (waits p r) e)
+      → operationOf new ≡ returnedBy done (operationOf (getD rows j emptyRow))
+      → map operationOf (set rows j new) ≡ returning p done (map operationOf rows)
+  returning-row i j [] rest e is = let z : _≡_ {A = ℕ} 0 1 = cc in absurd (omega arith)
+  returning-row i zero (r ∷ rows) rest e is = rw (is, open-waits p r) (go (waits p r) e)
     where
       go : (b : Bool) → cond b (i ∷ pendingOf p (suc i) rows) (pendingOf p (suc i) rows) ≡ (i + 0) ∷ rest
-          → record { process = r .process .0; call = callOf (r .kind) r; returned = doneOf (r .kind) pair } ∷ map operationOf rows
-          ≡ cond b (record { process = r .process .0; call = callOf (r .kind) r; returned = doneOf (r .kind) pair } ∷ map operationOf rows)
-          (operationOf r ∷ returning p (doneOf (r .kind) pair) (map operationOf rows))
+          → returnedBy done (operationOf r) ∷ map operationOf rows
+          ≡ cond b (returnedBy done (operationOf r) ∷ map operationOf rows) (operationOf r ∷ returning p done (map operationOf rows))
       go true f = refl
       go false f = let h = pending-first p (suc i) rows (i + 0) rest f in absurd (omega (arith, h .number))
-  returning-row i (suc j) (r ∷ rows) rest e = rw (open-waits p r) (go (waits p r) e (returning-row (suc i) j rows rest))
+  returning-row i (suc j) (r ∷ rows) rest e is = rw (open-waits p r) (go (waits p r) e (λ f. returning-row (suc i) j rows rest f is))
     where
-      old : Row
-      old = getD rows j emptyRow
-
       go : (b : Bool) → cond b (i ∷ pendingOf p (suc i) rows) (pendingOf p (suc i) rows) ≡ (i + suc j) ∷ rest
-          → (pendingOf p (suc i) rows ≡ (suc i + j) ∷ rest
-          → map operationOf (set rows j (completed old time pair)) ≡ returning p (doneOf (old .kind) pair) (map operationOf rows))
-          → operationOf r ∷ map operationOf (set rows j (completed old time pair))
-          ≡ cond b (record { process = r .process .0; call = callOf (r .kind) r; returned = doneOf (old .kind) pair } ∷ map operationOf rows)
-          (operationOf r ∷ returning p (doneOf (old .kind) pair) (map operationOf rows))
+          → (pendingOf p (suc i) rows ≡ (suc i + j) ∷ rest → map operationOf (set rows j new) ≡ returning p done (map operationOf rows))
+          → operationOf r ∷ map operationOf (set rows j new)
+          ≡ cond b (returnedBy done (operationOf r) ∷ map operationOf rows) (operationOf r ∷ returning p done (map operationOf rows))
       go true f h = let same : i ≡ i + suc j = cc in absurd (omega arith)
       go false f h =
           let next : i + suc j ≡ suc i + j = omega arith in

@@ -1,14 +1,15 @@
 -- The messages in flight and the packets in transit: the one at a place, all without it, and what a broadcast or a reply adds.
-use Prim.Native.Nat.{ℕ, zero, suc, _<_}
+use Prim.Native.Nat.{ℕ, zero, suc, _≤_, _<_}
 use mathlib.Core.Path.{_≡_, refl, ap, _∙_}
+use mathlib.Core.Bool.{Bool}
 use mathlib.Core.List.{List, [], _∷_, map}
 use native.Mathlib.Numerals.{add-one}
 use native.Mathlib.Omega.{arith}
 use lib.ListN.{length, getD}
 use Rattle.words.specs.declared.Message.{Message}
 use Rattle.tables.specs.Tables.{emptyMessage, removed, following, copies}
-use Rattle.sc_abd.specs.Algorithm1.{toAll}
-use Rattle.sc_abd.specs.System.{without, nowhere}
+use Rattle.sc_abd.specs.Algorithm1.{Content, toAll, bcast}
+use Rattle.sc_abd.specs.System.{without, nowhere, asksFor, asksAfter}
 use Rattle.sc_abd.specs.Same.{contentOf, packetOf}
 
 pub packet-at : (i : ℕ) (xs : List Message) → i < length xs → getD (map packetOf xs) i nowhere ≡ packetOf (getD xs i emptyMessage)
@@ -28,3 +29,8 @@ packets-sent (suc count) m =
     ap (λ l. packetOf m ∷ l)
     (packets-sent count (following m)
     ∙ ap (λ j. toAll (m .from .0) j count (contentOf (m .time .0) (m .rid .0) (m .body))) (add-one (m .to .0)))
+
+-- a broadcast tells whether it is a query
+pub asks-all : (n i : ℕ) (before : Bool) (m : Content) → 1 ≤ n → asksAfter before (bcast n i m) ≡ asksFor before m
+asks-all zero i before m l = absurd (omega arith)
+asks-all (suc n) i before m l = refl

@@ -2,14 +2,14 @@
 use Prim.Native.Nat.{ℕ, _+_, _-_, _<_, max}
 use mathlib.Core.Path.{_≡_, refl, sym, ap, subst, subst₂, _∙_}
 use mathlib.Core.Logic.{_≢_}
-use mathlib.Core.Bool.{Bool, true, false, cond}
+use mathlib.Core.Bool.{Bool, true, false, cond, _&&_, and-false}
 use mathlib.Core.List.{List, [], _∷_, _++_, map}
 use native.Mathlib.Decide.{ℕ-discrete}
 use native.Mathlib.Omega.{arith}
 use lib.Dec.{eqb}
 use lib.IntN.{ℤ}
 use lib.ListN.{length, getD, set}
-use lib.Seq.{getD-set-same, getD-set-other}
+use lib.Seq.{getD-set-other}
 use borrow.Author.Tests.{eq-eqb, ne-eqb}
 use Rattle.words.specs.declared.Body.the-variants.{Ack}
 use Rattle.words.specs.declared.Message.{Message}
@@ -27,17 +27,17 @@ use Rattle.tables.specs.declared.Kind.the-variants.{Read, Write}
 use Rattle.tables.specs.declared.Row.{Row}
 use Rattle.tables.specs.Tables.{emptyRow, removed}
 use Rattle.state.specs.State.{State, replicaOf, rowOf}
-use Rattle.state.specs.Step.{completed}
+use Rattle.state.specs.Step.{kept, completed}
 use Rattle.state.specs.WellFormed.{pendingOf}
 use Rattle.state.specs.Accepted.{messageAt}
 use Rattle.state.specs.PairLaws.{Within}
-use Rattle.state.specs.PendingLaws.{pending-within}
-use Rattle.state.specs.WellLaws.{PhaseOk, Well}
+use Rattle.state.specs.PendingLaws.{waits, waits-process, pending-first, pending-within, pending-same, pending-done}
+use Rattle.state.specs.WellLaws.{Well}
 use Rattle.sc_abd.specs.Algorithm1.{Process, Reply, Return, Done, join, majority, unhandled, ackCounted as paperCounted, onAck}
-use Rattle.sc_abd.specs.System.{System, without, returning}
-use Rattle.sc_abd.specs.Same.{operationOf, isRead, SamePhase, SameProcess, Same}
+use Rattle.sc_abd.specs.System.{System, isOpen, without, returning, historyAfter}
+use Rattle.sc_abd.specs.Same.{tsvOf, operationOf, pointedRows, isRead, SameUpdate, SamePhase, SameProcess, Same}
 use Rattle.sc_abd.specs.Answers.{isMajority, ended, waiting, ack-answers}
-use Rattle.sc_abd.specs.Histories.{doneOf, returning-row}
+use Rattle.sc_abd.specs.Histories.{doneOf, completed-operation, returning-row}
 use Rattle.sc_abd.specs.Repliers.{none-replied, joins, one-more, majority-test}
 use Rattle.sc_abd.specs.RequestNumbers.{Stage, stageOf, stageFor, Numbered}
 use Rattle.sc_abd.specs.RequestNumbersKept.{not-counted, present-stage}
@@ -80,29 +80,47 @@ paper-for n q j lt rid responses e f = rw (eq-eqb (q .rid) rid e, f) refl
 
 -- ---- the row that completes
 
-completed-kept : (s : State) (row : ℕ) (time : Time) (pair : Pair) → Within row (length (s .rows))
-    → RowsKept s (set (s .rows) (row - 1) (completed (rowOf s row) time pair))
-completed-kept s row time pair h =
-    record { register = λ number l. same (λ r. r .register) refl (number - 1); kind = λ number l. same (λ r. r .kind) refl (number - 1) }
+-- a row that is pending for p is p's
+owner : (s : State) (p row : ℕ) → pendingOf p 1 (s .rows) ≡ row ∷ [] → rowOf s row .process .0 ≡ p
+owner s p row e =
+    let g = pending-first p 1 (s .rows) row [] e in
+    let place : row - 1 ≡ g .place = omega (arith, g .number) in
+    ap (λ k. getD (s .rows) k emptyRow .process .0) place ∙ waits-process p (getD (s .rows) (g .place) emptyRow) (g .waiting)
+
+-- the operations of the others are as they were
+completed-kept : (s : State) (p row : ℕ) → pendingOf p 1 (s .rows) ≡ row ∷ [] → (time : Time) (pair : Pair)
+    → (q : ℕ) → (q ≡ p → ⊥) → RowsKept s (set (s .rows) (row - 1) (completed (rowOf s row) time pair)) q
+completed-kept s p row e time pair q n =
+    record {
+      pending = pending-same q 1 (s .rows) (row - 1) new (not-waiting new (owner s p row e) ∙ sym (not-waiting (rowOf s row) (owner s p row e)));
+      row = λ other f.
+          getD-set-other (s .rows) (row - 1) (other - 1) new emptyRow
+          (λ x. n (sym (owner s q other f) ∙ ap (λ k. getD (s .rows) k emptyRow .process .0) x ∙ owner s p row e));
+    }
   where
     new : Row
     new = completed (rowOf s row) time pair
 
-    same : {A : Type 0} (f : Row → A) → f new ≡ f (rowOf s row) → (j : ℕ) → f (getD (set (s .rows) (row - 1) new) j emptyRow) ≡ f (getD (s .rows) j emptyRow)
-    same f e j =
-        elim (ℕ-discrete j (row - 1)) [
-          | yes g ↦
-              ap (λ k. f (getD (set (s .rows) (row - 1) new) k emptyRow)) g
-              ∙ ap f (getD-set-same (s .rows) (row - 1) new emptyRow (omega (arith, h .least, h .most)))
-              ∙ e ∙ ap (λ k. f (getD (s .rows) k emptyRow)) (sym g)
-          | no n ↦ ap f (getD-set-other (s .rows) (row - 1) j new emptyRow n)
-        ]
+    not-waiting : (r : Row) → r .process .0 ≡ p → waits q r ≡ false
+    not-waiting r z = ap (λ (b : Bool). b && eqb (r .answered .0) 0) (ne-eqb (r .process .0) q (λ y. n (sym y ∙ z)))
+
+-- the pair of a completed row is the one that was sent
+kept-sent : (row : Row) (sent : Pair) (q : Process) (asks : Bool) → SameUpdate row sent q asks → tsvOf (kept (row .kind) row sent) ≡ q .tsv
+kept-sent row sent q asks h = go (row .kind) (h .reading)
+  where
+    go : (k : Kind) → q .reading ≡ isRead k → tsvOf (kept k row sent) ≡ q .tsv
+    go Read e = sym (h .pair-sent)
+    go Write e = h .written e
 
 -- a read is RETURNed the value that it wrote back, a write OK
 returned : (k : Kind) (sent : Pair) (reading : Bool) (rval : ℤ) → reading ≡ isRead k → (reading ≡ true → rval ≡ sent .value)
     → doneOf k sent ≡ cond reading (Return.value rval) Return.OK
 returned Read sent reading rval e h = rw e (ap Return.value (sym (h e)))
 returned Write sent reading rval e h = rw e refl
+
+closed : (reading : Bool) (rval : ℤ) → isOpen (cond reading (Return.value rval) Return.OK) ≡ false
+closed true rval = refl
+closed false rval = refl
 
 -- ---- the message at place i, an ack to p
 
@@ -134,7 +152,7 @@ module _ (s : State) (w : Well s) (n : Numbered s) (a : System) (same : Same s a
       q : Process
       q = a .processes p
 
-      mine : SameProcess s r q
+      mine : SameProcess s p r q (a .asking p)
       mine = own s w a same i p actor
 
       reply : Reply
@@ -146,11 +164,11 @@ module _ (s : State) (w : Well s) (n : Numbered s) (a : System) (same : Same s a
       new : member (r .repliers) (m .from .0) ≡ false
       new = not-counted s (w .seven) n i l p (actor .least) (omega (arith, actor .most, w .processes .most)) to (rw is refl) e
 
-      phase : SamePhase s (Updating row sent) q
-      phase = subst (λ ph. SamePhase s ph q) f (mine .phase)
+      phase : SameUpdate (rowOf s row) sent q (a .asking p)
+      phase = subst (λ ph. SamePhase s ph q (a .asking p)) f (mine .phase)
 
-      pending : pendingOf p 1 (s .rows) ≡ row ∷ []
-      pending = subst (λ ph. PhaseOk s p ph (r .repliers)) f (w .replica p actor .phase) .0
+      only : pendingOf p 1 (s .rows) ≡ row ∷ []
+      only = mine .waits ∙ ap pointedRows f
 
       test : eqb (length after) (majority (s .n)) ≡ isMajority (s .n) r (m .from)
       test = majority-test (r .repliers) (q .responses) (mine .replies) reply (sender-small s w n a same i l p actor to) new (s .n) (w .replica p actor .few)
@@ -161,23 +179,52 @@ module _ (s : State) (w : Well s) (n : Numbered s) (a : System) (same : Same s a
       time : Time
       time = record { 0 = max (r .clock .0) (m .time .0) + 1 }
 
-      told : map operationOf (set (s .rows) (row - 1) (completed (rowOf s row) time sent))
-          ≡ returning p (cond (q .reading) (Return.value (q .rval)) Return.OK) (a .history)
+      -- lines 26 to 30
+      final : Done
+      final =
+          record {
+            process =
+                record {
+                  lt = max (q .lt) (m .time .0) + 1;
+                  reading = q .reading;
+                  rreg = q .rreg;
+                  rid = q .rid + 1;
+                  tsv = q .tsv;
+                  rval = q .rval;
+                  tvps = q .tvps;
+                  responses = [];
+                };
+            sends = [];
+            return = cond (q .reading) (Return.value (q .rval)) Return.OK;
+          }
+
+      row-done : Row
+      row-done = completed (rowOf s row) time sent
+
+      told : map operationOf (set (s .rows) (row - 1) row-done) ≡ historyAfter p final (a .history)
       told =
-          let h = pending-within p row (s .rows) pending in
+          let h = pending-within p row (s .rows) only in
           let place : row ≡ 1 + (row - 1) = omega (arith, h .least) in
-          returning-row p time sent (omega arith) 1 (row - 1) (s .rows) [] (pending ∙ ap (λ k. k ∷ []) place)
-          ∙ ap (λ x. returning p x (map operationOf (s .rows))) (returned (rowOf s row .kind) sent (q .reading) (q .rval) (phase .0) (phase .2))
-          ∙ ap (returning p (cond (q .reading) (Return.value (q .rval)) Return.OK)) (same .history)
+          returning-row p final row-done 1 (row - 1) (s .rows) [] (only ∙ ap (λ k. k ∷ []) place)
+          (completed-operation (rowOf s row) time sent final (omega arith) clock (kept-sent (rowOf s row) sent q (a .asking p) phase)
+          (returned (rowOf s row .kind) sent (q .reading) (q .rval) (phase .reading) (phase .gives)))
+          ∙ ap (returning p final) (same .history)
+          ∙ sym (ap (λ x. cond x (a .history) (returning p final (a .history))) (closed (q .reading) (q .rval)))
+
+      over : waits p row-done ≡ false
+      over = ap (λ b. eqb (row-done .process .0) p && b) (ne-eqb (time .0) 0 (λ e. omega arith)) ∙ and-false (eqb (row-done .process .0) p)
+
+      row-over : pendingOf p 1 (set (s .rows) (row - 1) row-done) ≡ []
+      row-over = pending-done p 1 (s .rows) (row - 1) row row-done (omega (arith, pending-within p row (s .rows) only .least)) only over
 
       go : (b : Bool) → isMajority (s .n) r (m .from) ≡ b
           → Meets (cond b (ended r (m .time) sent) (waiting r (m .from) (m .time) row sent)) (paperCounted (s .n) q (max (q .lt) (m .time .0) + 1) after)
       go true h =
           rw (test ∙ h) (rw (ap pointed f)
           (same-moved s w a same p actor (ended r (m .time) sent) (removed i (s .flight)) (s .delivered + 1)
-          (set (s .rows) (row - 1) (completed (rowOf s row) time sent)) _ (without i (a .transit)) (a .history) refl
-          (completed-kept s row time sent (pending-within p row (s .rows) pending))
-          (record { clock = clock; number = ap (λ t. t + 1) (mine .number); store = mine .store; replies = none-replied; phase = refl })
+          (set (s .rows) (row - 1) row-done) final (without i (a .transit)) (a .history) refl
+          (completed-kept s p row only time sent)
+          (record { clock = clock; number = ap (λ t. t + 1) (mine .number); store = mine .store; replies = none-replied; waits = row-over; phase = refl })
           (left s w a same i p actor) refl told))
       go false h =
           rw (test ∙ h)
@@ -187,7 +234,15 @@ module _ (s : State) (w : Well s) (n : Numbered s) (a : System) (same : Same s a
             number = mine .number;
             store = mine .store;
             replies = one-more (r .repliers) (q .responses) (mine .replies) reply (sender-small s w n a same i l p actor to) new;
-            phase = phase;
+            waits = only;
+            phase =
+                record {
+                  asking = phase .asking;
+                  reading = phase .reading;
+                  pair-sent = phase .pair-sent;
+                  gives = phase .gives;
+                  written = phase .written;
+                };
           })
           refl refl)
 

@@ -1,6 +1,7 @@
 -- A crash and a loss: our step is the system's.
 use Prim.Native.Nat.{ℕ, _≤_}
 use mathlib.Core.Path.{refl, ap, _∙_}
+use mathlib.Core.Bool.{Bool}
 use mathlib.Core.List.{map, append-nil}
 use native.Mathlib.Decide.{ℕ-discrete}
 use native.Mathlib.Omega.{arith}
@@ -45,18 +46,19 @@ module _ (s : State) (w : Well s) (a : System) (same : Same s a) where
       most : p ≤ 7
       most = omega (arith, actor .most, w .processes .most)
 
-      still : (q : ℕ) → 1 ≤ q → q ≤ s .n → SameProcess (crashNext s p) (replicaOf s q) (a .processes q)
+      still : (q : ℕ) → 1 ≤ q → q ≤ s .n → SameProcess (crashNext s p) q (replicaOf s q) (a .processes q) (a .asking q)
       still q l m =
-          process-moved s p answer (s .flight) (s .delivered) (s .rows) (rows-kept s) q (replicaOf s q) (a .processes q)
-          (w .replica q (record { least = l; most = m }) .phase) (same .processes q l m)
+          process-moved s p answer (s .flight) (s .delivered) (s .rows) q (rows-kept s q) (replicaOf s q) (a .processes q) (a .asking q)
+          (same .processes q l m)
 
-      crashed : SameProcess (crashNext s p) (replicaOf s p) (a .processes p) → SameProcess (crashNext s p) (answer .replica) (a .processes p)
-      crashed h = record { clock = h .clock; number = h .number; store = h .store; replies = h .replies; phase = h .phase }
+      crashed : SameProcess (crashNext s p) p (replicaOf s p) (a .processes p) (a .asking p)
+          → SameProcess (crashNext s p) p (answer .replica) (a .processes p) (a .asking p)
+      crashed h = record { clock = h .clock; number = h .number; store = h .store; replies = h .replies; waits = h .waits; phase = h .phase }
 
-  phase-lost : (i : ℕ) (phase : Phase) (q : Process) → SamePhase s phase q → SamePhase (withoutMessage s i) phase q
-  phase-lost i Idle q h = h
-  phase-lost i (Querying row best) q h = h
-  phase-lost i (Updating row sent) q h = h
+  phase-lost : (i : ℕ) (phase : Phase) (q : Process) (asks : Bool) → SamePhase s phase q asks → SamePhase (withoutMessage s i) phase q asks
+  phase-lost i Idle q asks h = h
+  phase-lost i (Querying row best) q asks h = h
+  phase-lost i (Updating row sent) q asks h = h
 
   pub same-lose : (i : ℕ) → Same (withoutMessage s i) (taken a (Action.lose i))
   same-lose i =
@@ -68,12 +70,14 @@ module _ (s : State) (w : Well s) (a : System) (same : Same s a) where
         history = same .history;
       }
     where
-      lost : (p : ℕ) → SameProcess s (replicaOf s p) (a .processes p) → SameProcess (withoutMessage s i) (replicaOf s p) (a .processes p)
+      lost : (p : ℕ) → SameProcess s p (replicaOf s p) (a .processes p) (a .asking p)
+          → SameProcess (withoutMessage s i) p (replicaOf s p) (a .processes p) (a .asking p)
       lost p h =
           record {
             clock = h .clock;
             number = h .number;
             store = h .store;
             replies = h .replies;
-            phase = phase-lost i (replicaOf s p .phase) (a .processes p) (h .phase);
+            waits = h .waits;
+            phase = phase-lost i (replicaOf s p .phase) (a .processes p) (a .asking p) (h .phase);
           }

@@ -21,9 +21,8 @@ use Rattle.state.specs.Step.{moved, posted}
 use Rattle.state.specs.PairLaws.{Within}
 use Rattle.state.specs.WellLaws.{Well}
 use Rattle.sc_abd.specs.Algorithm1.{Tsv, Content, Process, Done, Return, maxTsv, assigned, onQuery, onUpdate}
-use Rattle.sc_abd.specs.System.{System, without, returning, doing}
+use Rattle.sc_abd.specs.System.{System, isOpen, without, returning, asksAfter, doing}
 use Rattle.sc_abd.specs.Same.{tsvOf, packetOf, SamePhase, SameProcess, Same}
-use Rattle.sc_abd.specs.Histories.{returning-none}
 use Rattle.sc_abd.specs.Packets.{packets-without}
 use Rattle.sc_abd.specs.SameMove.{rows-kept, process-moved, same-moved}
 
@@ -39,12 +38,15 @@ tsv-newer x y = tsv-pick (below (x .stamp) (y .stamp)) y x
 
 -- ---- the phase is told by neither the clock nor the store
 
-phase-at : (s : State) (phase : Phase) (q : Process) (lt : ℕ) (tvps : ℕ → Tsv) → SamePhase s phase q
+phase-at : (s : State) (phase : Phase) (q : Process) (asks : Bool) (lt : ℕ) (tvps : ℕ → Tsv) → SamePhase s phase q asks
     → SamePhase s phase
     (record { lt = lt; reading = q .reading; rreg = q .rreg; rid = q .rid; tsv = q .tsv; rval = q .rval; tvps = tvps; responses = q .responses })
-phase-at s Idle q lt tvps h = h
-phase-at s (Querying row best) q lt tvps h = h
-phase-at s (Updating row sent) q lt tvps h = h
+    asks
+phase-at s Idle q asks lt tvps h = h
+phase-at s (Querying row best) q asks lt tvps h =
+    record { asking = h .asking; reading = h .reading; register = h .register; best-so-far = h .best-so-far }
+phase-at s (Updating row sent) q asks lt tvps h =
+    record { asking = h .asking; reading = h .reading; pair-sent = h .pair-sent; gives = h .gives; written = h .written }
 
 -- ---- the message at place i is received by p
 
@@ -56,7 +58,7 @@ abbrev pub system : System → ℕ → ℕ → Done → System
 system a i p done = doing a p done (without i (a .transit)) (a .history)
 
 module _ (s : State) (w : Well s) (a : System) (same : Same s a) (i p : ℕ) (actor : Within p (s .n)) where
-  pub own : SameProcess s (replicaOf s p) (a .processes p)
+  pub own : SameProcess s p (replicaOf s p) (a .processes p) (a .asking p)
   own = same .processes p (actor .least) (actor .most)
 
   pub left : map packetOf (removed i (s .flight)) ≡ without i (a .transit)
@@ -64,18 +66,18 @@ module _ (s : State) (w : Well s) (a : System) (same : Same s a) (i p : ℕ) (ac
 
   -- what is the same of p alone is the same of all, where no operation is RETURNed
   pub same-received : (answer : Answer) (done : Done) → answer .replica .crashed ≡ replicaOf s p .crashed
-      → SameProcess (bench s i p answer) (answer .replica) (done .process)
+      → SameProcess (bench s i p answer) p (answer .replica) (done .process) (asksAfter (a .asking p) (done .sends))
       → map packetOf (posted s p (answer .sends)) ≡ done .sends → done .return ≡ Return.none
       → Same (bench s i p answer) (system a i p done)
   same-received answer done up now sent none =
       same-moved s w a same p actor answer (removed i (s .flight)) (s .delivered + 1) (s .rows) done (without i (a .transit)) (a .history)
-      up (rows-kept s) now left sent (same .history ∙ sym (ap (λ r. returning p r (a .history)) none ∙ returning-none p (a .history)))
+      up (λ q n. rows-kept s q) now left sent
+      (same .history ∙ sym (ap (λ r. cond (isOpen r) (a .history) (returning p done (a .history))) none))
 
   -- p's phase is as it was
-  pub still : (answer : Answer) → SameProcess (bench s i p answer) (replicaOf s p) (a .processes p)
+  pub still : (answer : Answer) → SameProcess (bench s i p answer) p (replicaOf s p) (a .processes p) (a .asking p)
   still answer =
-      process-moved s p answer (removed i (s .flight)) (s .delivered + 1) (s .rows) (rows-kept s) p (replicaOf s p) (a .processes p)
-      (w .replica p actor .phase) own
+      process-moved s p answer (removed i (s .flight)) (s .delivered + 1) (s .rows) p (rows-kept s p) (replicaOf s p) (a .processes p) (a .asking p) own
 
   module _ (m : Message) where
     pub clock-after : max (replicaOf s p .clock .0) (m .time .0) + 1 ≡ max (a .processes p .lt) (m .time .0) + 1
@@ -93,7 +95,8 @@ module _ (s : State) (w : Well s) (a : System) (same : Same s a) (i p : ℕ) (ac
           number = own .number;
           store = own .store;
           replies = own .replies;
-          phase = phase-at _ (replicaOf s p .phase) (a .processes p) _ _ (still answer .phase);
+          waits = own .waits;
+          phase = phase-at _ (replicaOf s p .phase) (a .processes p) (a .asking p) _ _ (still answer .phase);
         })
         (ap₂ (λ t v. record { from = p; to = m .from .0; content = Content.response t (m .rid .0) v } ∷ []) clock-after (own .store x (l .least) (l .most)))
         refl
@@ -110,7 +113,8 @@ module _ (s : State) (w : Well s) (a : System) (same : Same s a) (i p : ℕ) (ac
           number = own .number;
           store = stores;
           replies = own .replies;
-          phase = phase-at _ (replicaOf s p .phase) (a .processes p) _ _ (still answer .phase);
+          waits = own .waits;
+          phase = phase-at _ (replicaOf s p .phase) (a .processes p) (a .asking p) _ _ (still answer .phase);
         })
         (ap (λ t. record { from = p; to = m .from .0; content = Content.ack t (m .rid .0) } ∷ []) clock-after)
         refl

@@ -2,7 +2,7 @@
 use Prim.Native.Nat.{ℕ, _+_, _≤_, _<_, max}
 use mathlib.Core.Path.{_≡_, refl, sym, ap, ap₂, subst, subst₂, _∙_}
 use mathlib.Core.Logic.{_≢_}
-use mathlib.Core.Bool.{Bool, true, false, cond}
+use mathlib.Core.Bool.{Bool, true, false, cond, false≢true}
 use mathlib.Core.List.{List, [], _∷_, _++_}
 use native.Mathlib.Decide.{ℕ-discrete}
 use native.Mathlib.Omega.{arith}
@@ -25,16 +25,16 @@ use Rattle.tables.specs.declared.Kind.the-variants.{Read, Write}
 use Rattle.tables.specs.Tables.{removed}
 use Rattle.state.specs.State.{State, replicaOf, rowOf}
 use Rattle.state.specs.Step.{moved, messageOf, answeredRows, askedRegister}
-use Rattle.state.specs.WellFormed.{isWrite}
+use Rattle.state.specs.WellFormed.{pendingOf, isWrite}
 use Rattle.state.specs.Accepted.{messageAt}
 use Rattle.state.specs.PairLaws.{Within}
 use Rattle.state.specs.WellLaws.{PhaseOk, Well, message-at}
 use Rattle.sc_abd.specs.Algorithm1.{Tsv, Content, Process, Reply, Done, bcast, join, maxTsv, maxOf, majority}
 use Rattle.sc_abd.specs.Algorithm1.{unhandled, responseCounted as paperCounted, onResponse}
 use Rattle.sc_abd.specs.System.{System}
-use Rattle.sc_abd.specs.Same.{tsvOf, isRead, SamePhase, SameProcess, Same}
+use Rattle.sc_abd.specs.Same.{tsvOf, pointedRows, isRead, SameQuery, SamePhase, SameProcess, Same}
 use Rattle.sc_abd.specs.Answers.{isMajority, chosen, asking, response-answers}
-use Rattle.sc_abd.specs.Packets.{packets-sent}
+use Rattle.sc_abd.specs.Packets.{packets-sent, asks-all}
 use Rattle.sc_abd.specs.Repliers.{none-replied, joins, one-more, majority-test, max-more}
 use Rattle.sc_abd.specs.RequestNumbers.{Stage, stageOf, stageFor, Numbered}
 use Rattle.sc_abd.specs.RequestNumbersKept.{not-counted, present-stage}
@@ -125,7 +125,7 @@ module _ (s : State) (w : Well s) (n : Numbered s) (a : System) (same : Same s a
           q : Process
           q = a .processes p
 
-          mine : SameProcess s r q
+          mine : SameProcess s p r q (a .asking p)
           mine = own s w a same i p actor
 
           reply : Reply
@@ -140,14 +140,17 @@ module _ (s : State) (w : Well s) (n : Numbered s) (a : System) (same : Same s a
           new : member (r .repliers) (m .from .0) ≡ false
           new = not-counted s (w .seven) n i l p (actor .least) (omega (arith, actor .most, w .processes .most)) to (rw is refl) e
 
-          phase : SamePhase s (Querying row best) q
-          phase = subst (λ ph. SamePhase s ph q) f (mine .phase)
+          phase : SameQuery (rowOf s row) best q (a .asking p)
+          phase = subst (λ ph. SamePhase s ph q (a .asking p)) f (mine .phase)
+
+          only : pendingOf p 1 (s .rows) ≡ row ∷ []
+          only = mine .waits ∙ ap pointedRows f
 
           kind : isRead (rowOf s row .kind) ≡ true
           kind = read-kind (rowOf s row .kind) (subst (λ ph. PhaseOk s p ph (r .repliers)) f (w .replica p actor .phase) .1)
 
           greatest : maxOf after ≡ tsvOf newest
-          greatest = max-more (q .responses) (tsvOf pair) (m .from .0) ∙ ap (λ v. maxTsv v (tsvOf pair)) (phase .2) ∙ sym (tsv-newer best pair)
+          greatest = max-more (q .responses) (tsvOf pair) (m .from .0) ∙ ap (λ v. maxTsv v (tsvOf pair)) (phase .best-so-far) ∙ sym (tsv-newer best pair)
 
           test : eqb (length after) (majority (s .n)) ≡ isMajority (s .n) r (m .from)
           test = majority-test (r .repliers) (q .responses) (mine .replies) reply sender-small new (s .n) (w .replica p actor .few)
@@ -166,11 +169,19 @@ module _ (s : State) (w : Well s) (n : Numbered s) (a : System) (same : Same s a
                 number = ap (λ t. t + 1) (mine .number);
                 store = mine .store;
                 replies = none-replied;
-                phase = (phase .0 ∙ sym kind, greatest, λ t. ap (λ (v : Tsv). v .value) greatest);
+                waits = only;
+                phase =
+                    record {
+                      asking = asks-all (s .n) p (a .asking p) _ (w .processes .least);
+                      reading = phase .reading ∙ sym kind;
+                      pair-sent = greatest;
+                      gives = λ t. ap (λ (v : Tsv). v .value) greatest;
+                      written = λ t. absurd (false≢true (sym t ∙ phase .reading));
+                    };
               })
               (packets-sent (s .n) (messageOf (s .sent + 1) p 1 _)
               ∙ ap₂ (λ t u. bcast (s .n) p (Content.update t (u + 1) (rowOf s row .register) (tsvOf newest))) clock (mine .number)
-              ∙ ap₂ (λ x v. bcast (s .n) p (Content.update (max (q .lt) (m .time .0) + 1) (q .rid + 1) x v)) (sym (phase .1)) (sym greatest))
+              ∙ ap₂ (λ x v. bcast (s .n) p (Content.update (max (q .lt) (m .time .0) + 1) (q .rid + 1) x v)) (sym (phase .register)) (sym greatest))
               refl)
           go false h =
               rw (test ∙ h)
@@ -180,7 +191,8 @@ module _ (s : State) (w : Well s) (n : Numbered s) (a : System) (same : Same s a
                 number = mine .number;
                 store = mine .store;
                 replies = one-more (r .repliers) (q .responses) (mine .replies) reply sender-small new;
-                phase = (phase .0, phase .1, greatest);
+                waits = only;
+                phase = record { asking = phase .asking; reading = phase .reading; register = phase .register; best-so-far = greatest };
               })
               refl refl)
 

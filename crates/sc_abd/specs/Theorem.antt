@@ -30,6 +30,7 @@ start-same n m =
         number = refl;
         store = λ x least most. ap tsvOf (getD-empty 16 (x - 1) startPair);
         replies = none-replied;
+        waits = refl;
         phase = refl;
       });
       down = λ p l h. rw (fresh-replica n m p) refl;

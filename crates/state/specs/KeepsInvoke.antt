@@ -40,19 +40,19 @@ idle-none s p (Updating row sent) repliers e o = absurd (false≢true e)
 -- ---- one row more
 
 module _ (rows : List Row) (r : Row) where
-  added-other : (q : ℕ) → (r .process .0 ≡ q → ⊥) → pendingOf q 1 (rows ++ (r ∷ [])) ≡ pendingOf q 1 rows
+  pub added-other : (q : ℕ) → (r .process .0 ≡ q → ⊥) → pendingOf q 1 (rows ++ (r ∷ [])) ≡ pendingOf q 1 rows
   added-other q f =
       pending-append q 1 rows (r ∷ [])
       ∙ (ap (λ (b : Bool). pendingOf q 1 rows ++ cond (b && eqb (r .answered .0) 0) ((1 + length rows) ∷ []) []) (ne-eqb (r .process .0) q f)
       ∙ append-nil (pendingOf q 1 rows))
 
-  added-own : (p : ℕ) → waits p r ≡ true → pendingOf p 1 rows ≡ [] → pendingOf p 1 (rows ++ (r ∷ [])) ≡ (length rows + 1) ∷ []
+  pub added-own : (p : ℕ) → waits p r ≡ true → pendingOf p 1 rows ≡ [] → pendingOf p 1 (rows ++ (r ∷ [])) ≡ (length rows + 1) ∷ []
   added-own p e f =
       let g : 1 + length rows ≡ length rows + 1 = omega arith in
       pending-append p 1 rows (r ∷ []) ∙ (ap (λ (l : List ℕ). l ++ pendingOf p (1 + length rows) (r ∷ [])) f
       ∙ (ap (λ (b : Bool). cond b ((1 + length rows) ∷ []) []) e ∙ ap (λ (k : ℕ). k ∷ []) g))
 
-  added-last : getD (rows ++ (r ∷ [])) (length rows + 1 - 1) emptyRow ≡ r
+  pub added-last : getD (rows ++ (r ∷ [])) (length rows + 1 - 1) emptyRow ≡ r
   added-last =
       let e : length rows + 1 - 1 ≡ length rows = omega arith in
       ap (λ (k : ℕ). getD (rows ++ (r ∷ [])) k emptyRow) e ∙ getD-append-seam rows r [] emptyRow
