@@ -6,6 +6,7 @@ pub mod Demand2
 -- What is proved
 pub mod Theorem
 pub mod Corollaries
+pub mod SameLaws
 pub mod Impostors
 -- Lists, places, packets, rows
 pub mod Lists
