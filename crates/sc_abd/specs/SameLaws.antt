@@ -105,16 +105,16 @@ call-outstanding p [] o e = rw e refl
 call-outstanding p (x ∷ history) o e = rw (call-outstanding p history o e) (or-true (eqb (x .process) p && isOpen (x .returned)))
 
 module _ (s : State) (p : ℕ) (least : 1 ≤ p) (most : p ≤ s .n) where
-  idle-empty : (phase : Phase) → isIdle phase ≡ isEmpty (pointedRows phase)
-  idle-empty Idle = refl
-  idle-empty (Querying row best) = refl
-  idle-empty (Updating row sent) = refl
+  points-nowhere : (phase : Phase) → isIdle phase ≡ isEmpty (pointedRows phase)
+  points-nowhere Idle = refl
+  points-nowhere (Querying row best) = refl
+  points-nowhere (Updating row sent) = refl
 
   pub idle-exactly : (a : System) → Same s a → outstanding p (a .history) ≡ not (isIdle (replicaOf s p .phase))
   idle-exactly a same =
       let h = same .processes p least most in
       ap (outstanding p) (sym (same .history)) ∙ outstanding-pending p 1 (s .rows) ∙ ap (λ l. not (isEmpty l)) (h .waits)
-      ∙ ap not (sym (idle-empty (replicaOf s p .phase)))
+      ∙ ap not (sym (points-nowhere (replicaOf s p .phase)))
 
   stage-told : (a : System) (asks : Bool) → Same s a → outstanding p (a .history) ≡ true → a .asking p ≡ asks
       → stageOf (replicaOf s p .phase) ≡ cond asks Stage.querying Stage.updating
