@@ -32,7 +32,7 @@ actionOf s (Deliver k) = Action.receive (placeOf (seek k 0 (s .flight)))
 actionOf s (Crash p) = Action.crash (p .0)
 actionOf s (Lose k) = Action.lose (placeOf (seek k 0 (s .flight)))
 
-names-one : {s : State} {e : Event} {action : Action} → Names s e action → action ≡ actionOf s e
+pub names-one : {s : State} {e : Event} {action : Action} → Names s e action → action ≡ actionOf s e
 names-one (read p x) = refl
 names-one (write p x v) = refl
 names-one (deliver k place found) = ap (λ f. Action.receive (placeOf f)) (sym found)

@@ -3,9 +3,7 @@
 use Prim.Native.Nat.{ℕ, _+_, _-_, _≤_, _<_}
 use mathlib.Core.Path.{_≡_}
 use mathlib.Core.Bool.{true}
-use mathlib.Core.List.{List}
-use lib.ListN.{length, getD}
-use Rattle.words.specs.declared.Message.{Message}
+use lib.ListN.{length}
 use Rattle.words.specs.Ranges.{within}
 use Rattle.tables.specs.declared.Found.the-variants.{At as Place}
 use Rattle.tables.specs.Tables.{seek}

@@ -40,3 +40,4 @@ pub mod RepliedKept
 pub mod Completion
 -- Runs of any bench
 pub mod Along
+pub mod AnyBench
