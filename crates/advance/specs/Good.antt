@@ -13,7 +13,7 @@ use Rattle.words.specs.declared.Body.{Body}
 use Rattle.words.specs.declared.Body.the-variants.{Query, Response, Update, Ack}
 use Rattle.words.specs.declared.Message.{Message}
 use Rattle.words.specs.Quorum.{counted, majorityOf}
-use Rattle.words.specs.Ranges.{within, isZero}
+use Rattle.words.specs.Ranges.{within, isZero, repliersFit}
 use Rattle.words.specs.RangeLaws.{and-left, and-right, within-most, within-least}
 use Rattle.replica.specs.declared.Phase.{Phase}
 use Rattle.replica.specs.declared.Phase.the-variants.{Idle, Querying, Updating}
@@ -147,7 +147,7 @@ phase-points s p (Updating number sent) repliers e = only-within p number (s .ro
 replica-points : (s : State) (p : ℕ) (r : Replica) → replicaFits s p r ≡ true → Points (s .rows) (r .phase)
 replica-points s p r e = phase-points s p (r .phase) (r .repliers) (and-right
     (leb (r .clock .0) (s .accepted) && leb (r .rid .0) (2 * s .accepted) && eqb (length (r .pairs)) 16 && pairsFit s (s .m) (r .pairs)
-    && eqb (r .repliers % 2) 0 && ltb (r .repliers) (2 ^ (s .n + 1)) && ltb (counted (r .repliers)) (majorityOf (s .n)))
+    && repliersFit (s .n) (r .repliers) && ltb (counted (r .repliers)) (majorityOf (s .n)))
     (phaseFits s p (r .phase) (r .repliers)) e)
 
 each-points : (s : State) (p : ℕ) (rs : List Replica) (i : ℕ) → eachFits s p rs ≡ true → i < length rs → p + i ≤ s .n → Points (s .rows) (getD rs i freshReplica .phase)

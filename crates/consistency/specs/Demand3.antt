@@ -1,8 +1,11 @@
 -- Demand 3, stated of any bench f, over the states that it reaches from a fresh start: the one order explains everything that the processes saw.
 -- And ours meets it.
-use mathlib.Core.Path.{sym, subst}
+use Prim.Native.Nat.{ℕ}
+use mathlib.Core.Path.{_≡_, sym, subst}
+use mathlib.Core.Bool.{true}
 use mathlib.Core.List.{List}
 use lib.IntN.{pos}
+use Rattle.words.specs.Ranges.{within}
 use Rattle.placing.specs.Sequential.{Sequential}
 use Rattle.placing.specs.RealTime.{RealTime}
 use Rattle.placing.specs.Placing.{placing, realTime as placed-in-time}
@@ -12,9 +15,10 @@ use Rattle.state.specs.declared.Event.{Event}
 use Rattle.state.specs.State.{State}
 use Rattle.state.specs.Step.{Outcome, step}
 use Rattle.state.specs.Reached.{Reached}
-use Rattle.sc_abd.specs.System.{System}
+use Rattle.sc_abd.specs.System.{Action}
 use Rattle.sc_abd.specs.Demand2.{ReachedBy, Demand2}
-use Rattle.sc_abd.specs.AnyBench.{RunBy, rows-of-ours}
+use Rattle.sc_abd.specs.Executions.{Execution, Performed}
+use Rattle.sc_abd.specs.AnyBench.{rows-of-ours}
 use Rattle.sc_abd.specs.Theorem.{reached}
 use Rattle.consistency.specs.Operations.{operationsOf, orderOf}
 use Rattle.consistency.specs.FactsLaws.{facts}
@@ -32,8 +36,9 @@ step-meets-demand3 s r = sequential s (reached r)
 pub realTime : (s : State) → Reached s → RealTime (operationsOf s) (orderOf s)
 realTime s r = placed-in-time (pos 0) (operationsOf s) (facts s r)
 
--- Demand 2 binds what the one order reads: of any bench that meets it, within the limits, the order explains what the processes saw
-pub demand2-orders : (f : State → Event → Outcome) → Demand2 f → (s : State) (a : System) → RunBy f s a → Sequential (pos 0) (operationsOf s) (orderOf s)
-demand2-orders f d s a run =
-    let (t, r, same) = rows-of-ours f d s a run in
+-- Demand 2 binds what the one order reads: of any bench that meets it, after any execution within the limits, the order explains what the processes saw
+pub demand2-orders : (f : State → Event → Outcome) → Demand2 f → (n m : ℕ) → within n 7 ≡ true → within m 16 ≡ true
+    → {steps : List Action} {s : State} → Execution n m steps → Performed f n m steps s → Sequential (pos 0) (operationsOf s) (orderOf s)
+demand2-orders f d n m processes registers x p =
+    let (t, r, same) = rows-of-ours f d n m processes registers x p in
     subst (λ (rows : List Row). Sequential (pos 0) (ofRows rows) (ofHistory rows)) (sym same) (sequential t (reached r))

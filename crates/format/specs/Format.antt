@@ -49,3 +49,9 @@ eventAt bytes at =
     (cond (eqb kind 3) (whole bytes at 5 (Deliver (wordAt bytes (at + 1))))
     (cond (eqb kind 4) (whole bytes at 2 (Crash (record { 0 = p })))
     (cond (eqb kind 5) (whole bytes at 5 (Lose (wordAt bytes (at + 1)))) (Refused 6))))))
+
+-- document 01's number for what stands at a place: 6 or 7 where it is refused, 0 where an event or the end stands there
+abbrev pub parseRefusal : Parse → ℕ
+parseRefusal (Next event at) = 0
+parseRefusal (Refused number) = number
+parseRefusal End = 0

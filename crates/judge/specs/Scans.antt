@@ -1,5 +1,5 @@
 -- The tests of `Tabled` and `WellFormed` as the code makes them: each table is gone through once, and what was seen is carried along.
-use Prim.Native.Nat.{ℕ, suc, _+_, _-_, _*_, _%_, _^_}
+use Prim.Native.Nat.{ℕ, suc, _+_, _-_, _*_}
 use mathlib.Core.Bool.{Bool, true, false, not, cond, _&&_}
 use mathlib.Core.List.{List, [], _∷_}
 use lib.Dec.{eqb, ltb, leb}
@@ -7,7 +7,7 @@ use lib.ListN.{length, getD, set, replicate}
 use Rattle.words.specs.declared.Message.{Message}
 use Rattle.words.specs.declared.Pair.{Pair}
 use Rattle.words.specs.Quorum.{counted, majorityOf}
-use Rattle.words.specs.Ranges.{within, pairFits}
+use Rattle.words.specs.Ranges.{within, pairFits, repliersFit}
 use Rattle.replica.specs.declared.Phase.{Phase}
 use Rattle.replica.specs.declared.Phase.the-variants.{Idle, Querying, Updating}
 use Rattle.replica.specs.declared.Replica.{Replica}
@@ -115,8 +115,8 @@ phaseJudged s w (Updating row sent) repliers = isOne row w && pairFits (s .accep
 
 abbrev pub replicaJudged : State → Waiting → Replica → Bool
 replicaJudged s w r =
-    leb (r .clock .0) (s .accepted) && leb (r .rid .0) (2 * s .accepted) && storedFit s (s .m) (r .pairs) && eqb (r .repliers % 2) 0
-    && ltb (r .repliers) (2 ^ (s .n + 1)) && ltb (counted (r .repliers)) (majorityOf (s .n)) && phaseJudged s w (r .phase) (r .repliers)
+    leb (r .clock .0) (s .accepted) && leb (r .rid .0) (2 * s .accepted) && storedFit s (s .m) (r .pairs)
+    && repliersFit (s .n) (r .repliers) && ltb (counted (r .repliers)) (majorityOf (s .n)) && phaseJudged s w (r .phase) (r .repliers)
 
 abbrev pub processJudged : State → ℕ → Waiting → Replica → Bool
 processJudged s p w r = cond (leb p (s .n)) (replicaJudged s w r) (isFresh r)

@@ -1,14 +1,12 @@
 -- What each test comes to, by the branches that the code takes.
 use mathlib.Core.Path.{_≡_, refl, sym}
-use Prim.Native.Nat.{ℕ, zero, suc, _+_, _-_, _<_, _≤_, _^_}
-use native.Mathlib.Nat.{lt-of-lt-of-le}
+use Prim.Native.Nat.{ℕ, zero, suc, _+_, _-_, _≤_}
 use native.Mathlib.Omega.{arith}
 use mathlib.Core.Bool.{Bool, true, false, not, _&&_, and-false, and-assoc}
 use mathlib.Core.List.{List}
 use lib.Dec.{eqb, ltb, leb, eqb·suc-suc}
 use lib.ListN.{length, getD, set}
-use lib.Pow.{pow-mono}
-use borrow.Author.Tests.{eq-eqb, ne-eqb, lt-ltb, leb-true, eqb-false, not-true}
+use borrow.Author.Tests.{eq-eqb, ne-eqb, leb-true, eqb-false, not-true}
 use Rattle.words.specs.declared.Message.{Message}
 use Rattle.words.specs.Ranges.{within}
 use Rattle.words.specs.RangeLaws.{and-left, and-right}
@@ -80,6 +78,3 @@ fresh-is s r t u e f =
     (sym
     (and-assoc (not (r .crashed) && eqb (r .clock .0) 0 && eqb (r .rid .0) 0 && isIdle (r .phase) && eqb (r .repliers) 0)
     (eqb (length (r .pairs)) 16) (every isStart (r .pairs))))
-
-pub below-power : (x n : ℕ) → x < 256 → 7 ≤ n → true ≡ ltb x (2 ^ (n + 1))
-below-power x n l h = sym (lt-ltb x (2 ^ (n + 1)) (lt-of-lt-of-le l (pow-mono {i = 8} {j = n + 1} (omega arith))))

@@ -1,7 +1,5 @@
 // One replica, of a process of the bench or behind them; all seven; and the whole.
 ghost use mathlib.Core.Path.{_≡_};
-ghost use Prim.Native.Nat.{_+_, _^_};
-ghost use lib.Dec.{ltb};
 ghost use Rattle.state.specs.WellFormed.{isStart, isFresh};
 ghost use Rattle.judge.specs.Scans.{
   limited,
@@ -28,6 +26,7 @@ use words::quorum::majority;
 use words::quorum::size;
 use words::ranges::PROCESSES;
 use words::ranges::pair_fits;
+use words::ranges::repliers_fit;
 
 fn is_start(p: Pair) -> bool
     ensures { λ r. ⌜ r ≡ isStart p ⌝ }
@@ -59,17 +58,6 @@ fn stored_fit(l: Limits, m: u8, pairs: [Pair; 16]) -> bool
         i = i + 1;
     }
     ok
-}
-
-// A set of processes up to n.
-fn is_below(repliers: u8, n: u8) -> bool
-    ensures { λ r. ⌜ r ≡ ltb repliers (2 ^ (n + 1)) ⌝ }
-{
-    if n < PROCESSES {
-        repliers < (1u8 << (n + 1))
-    } else {
-        true
-    }
 }
 
 // The only pending row is this one.
@@ -105,8 +93,7 @@ fn replica_fits(l: Limits, w: Waiting, r: Replica) -> bool
     (r.clock.0 <= l.accepted)
         & (r.rid.0 as u32 <= 2 * (l.accepted as u32))
         & stored_fit(l, l.m, pairs)
-        & (repliers % 2 == 0)
-        & is_below(repliers, l.n)
+        & repliers_fit(l.n, repliers)
         & (size(repliers) < majority(l.n) as u32)
         & phase_fits(l, w, phase, repliers)
 }

@@ -1,11 +1,10 @@
 -- Demand 3 of the public functions: after `start` and any accepted `step`s, `order` is never refused for a table of 1,024 places, and the row numbers that
 -- it lays are a sequentially consistent order of the history in the lent table. So `step` and `status` are never refused by 18 either.
 use Prim.Native.Nat.{ℕ}
-use mathlib.Core.Path.{_≡_, refl, sym, ap, subst, _∙_}
+use mathlib.Core.Path.{_≡_, refl, sym, subst, _∙_}
 use mathlib.Core.Bool.{Bool, true, false, not}
 use mathlib.Core.List.{List}
 use borrow.Author.Tests.{eqb-false}
-use lib.IntN.{pos}
 use lib.ListN.{length}
 use Rattle.words.specs.declared.Message.{Message}
 use Rattle.words.specs.Ranges.{within}
@@ -19,14 +18,12 @@ use Rattle.state.specs.Keeps.{reached-well-formed}
 use Rattle.state.specs.Sized.{reached-sized}
 use Rattle.state.specs.Reached.{Reached, start, next}
 use Rattle.advance.specs.TabledLaws.{Holds, holds-tabled, holds-view}
-use Rattle.placing.specs.Sequential.{Sequential}
-use Rattle.placing.specs.RealTime.{RealTime}
-use Rattle.order.specs.Operations.{operationsOf, orderOf}
+use Rattle.order.specs.Operations.{orderOf}
 use Rattle.bench.specs.Start.{startedBy, startReply}
 use Rattle.bench.specs.Reply.{stepReply, stepMessages, stepRows}
-use Rattle.bench.specs.Listing.{listReply, listLeft, listedReply, laidNumbers}
+use Rattle.bench.specs.Listing.{listReply, listLeft}
 use Rattle.consistency.specs.Demand3.{sequential, realTime}
-use Rattle.promised.specs.Lent.{Lent, started, stepped}
+use Rattle.promised.specs.Lent.{Lent, started, stepped, history, Explained}
 
 -- ---- what `start` and `step` leave holds a state that was reached
 
@@ -76,16 +73,6 @@ lent _ _ _ (stepped b event messages rows l z) =
     (stepped-holds b event messages rows (before .formed))
 
 -- ---- the promise
-
-abbrev history : Bench → List Message → List Row → List Row
-history b messages rows = view b messages rows .rows
-
-pub record Explained (b : Bench) (messages : List Message) (rows : List Row) (out : List ℕ) : Type 0 where
-  pub numbers : List ℕ
-  pub reply : listReply b messages rows out ≡ listedReply (length numbers)
-  pub laid : listLeft b messages rows out ≡ laidNumbers numbers
-  pub consistent : Sequential (pos 0) (operationsOf (history b messages rows)) numbers
-  pub in-time : RealTime (operationsOf (history b messages rows)) numbers
 
 pub explained : (b : Bench) (messages : List Message) (rows : List Row) (out : List ℕ) → Tells b messages rows → length out ≡ 1024 → Explained b messages rows out
 unfolding listReply listLeft

@@ -1,61 +1,45 @@
--- Demand 3 of the replay, for every file of bytes: what it prints is the number of a refusal, or the text of a state and an order such that the order explains the state's history.
-use Prim.Native.Nat.{ℕ}
-use mathlib.Core.Path.{_≡_, refl}
-use mathlib.Core.Bool.{Bool, true, false}
+-- Demand 3 of the replay, for every file of bytes: what `replay` lays at the front of a buffer that is long enough tells of the run of that file.
+use Prim.Native.Nat.{ℕ, _+_, _≤_}
+use mathlib.Core.Path.{_≡_, sym, ap, subst, _∙_}
+use mathlib.Core.Bool.{Bool, cond}
 use mathlib.Core.List.{List}
-use lib.Dec.{eqb}
-use lib.IntN.{pos}
-use borrow.Author.Tests.{eqb-true}
-use Rattle.state.specs.State.{State}
+use lib.ListN.{length, take, drop}
+use lib.Seq.{take-append-seam}
+use borrow.Author.Tests.{eq-eqb, ne-eqb, le-leb}
+use Rattle.tables.specs.Tables.{laidAt}
 use Rattle.state.specs.Reached.{Reached}
-use Rattle.placing.specs.Sequential.{Sequential}
-use Rattle.placing.specs.RealTime.{RealTime}
-use Rattle.order.specs.Operations.{operationsOf, orderOf}
-use Rattle.text.specs.Printed.{printed, printedRefusal}
 use Rattle.format.specs.Format.{fileRefusal}
 use Rattle.format.specs.FileLaws.{file-opens}
-use Rattle.schedule.specs.Opening.{ranFile}
 use Rattle.schedule.specs.FileLaws.{file-reached}
 use Rattle.consistency.specs.Demand3.{sequential, realTime}
-use Rattle.replaying.specs.Replayed.{replayed}
+use Rattle.replaying.specs.Replayed.{replayed, replayReply, replayLeft}
 use Rattle.replaying.specs.ReplayedLaws.{replayed-run, replayed-refused}
-
--- a text that tells of a history and of an order that explains it
-pub record Explains (text : List ℕ) : Type 0 where
-  pub state : State
-  pub refusal : ℕ
-  pub order : List ℕ
-  pub told : text ≡ printed state refusal order
-  pub reached : Reached state
-  pub consistent : Sequential (pos 0) (operationsOf (state .rows)) order
-  pub in-time : RealTime (operationsOf (state .rows)) order
-
--- a text that tells of no history
-pub record Refuses (text : List ℕ) : Type 0 where
-  pub number : ℕ
-  pub told : text ≡ printedRefusal number
-
-pub data Told (text : List ℕ) : Type 0 where
-  explains : Explains text → Told text
-  refuses : Refuses text → Told text
+use Rattle.promised.specs.Told.{finalState, Explains, Told}
 
 module _ (bytes : List ℕ) where
-  run-reached : eqb (fileRefusal bytes) 0 ≡ true → Reached (ranFile bytes .state)
-  run-reached e = file-reached bytes (file-opens bytes (eqb-true (fileRefusal bytes) 0 e))
+  module _ (z : fileRefusal bytes ≡ 0) where
+    was-reached : Reached (finalState bytes)
+    was-reached = file-reached bytes (file-opens bytes z)
 
-  pub replay-explains : Told (replayed bytes)
-  replay-explains = go (eqb (fileRefusal bytes) 0) refl
-    where
-      go : (t : Bool) → eqb (fileRefusal bytes) 0 ≡ t → Told (replayed bytes)
-      go true e =
-          explains
-          (record {
-            state = ranFile bytes .state;
-            refusal = ranFile bytes .refusal;
-            order = orderOf (ranFile bytes .state .rows);
-            told = replayed-run bytes e;
-            reached = run-reached e;
-            consistent = sequential (ranFile bytes .state) (run-reached e);
-            in-time = realTime (ranFile bytes .state) (run-reached e);
-          })
-      go false e = refuses (record { number = fileRefusal bytes; told = replayed-refused bytes e })
+    text-explains : Explains bytes (replayed bytes)
+    text-explains =
+        record {
+          told = replayed-run bytes (eq-eqb (fileRefusal bytes) 0 z);
+          reached = was-reached;
+          consistent = sequential (finalState bytes) was-reached;
+          in-time = realTime (finalState bytes) was-reached;
+        }
+
+  text-told : Told bytes (replayed bytes)
+  text-told = record { explains = text-explains; refuses = λ n. replayed-refused bytes (ne-eqb (fileRefusal bytes) 0 n) }
+
+  module _ (out : List ℕ) (long : 81563 ≤ length out) where
+    -- as many bytes of the buffer as `replay` says
+    front : take (replayReply bytes out) (replayLeft bytes out) ≡ replayed bytes
+    unfolding replayReply replayLeft
+    front =
+        ap (λ (t : Bool). take (cond t (length (replayed bytes)) 0) (cond t (laidAt 0 (replayed bytes) out) out)) (le-leb 81563 (length out) long)
+        ∙ take-append-seam (replayed bytes) (drop (0 + length (replayed bytes)) out)
+
+    pub replay-explains : Told bytes (take (replayReply bytes out) (replayLeft bytes out))
+    replay-explains = subst (Told bytes) (sym front) text-told

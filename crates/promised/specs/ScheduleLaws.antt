@@ -11,8 +11,8 @@ use Rattle.state.specs.State.{view}
 use Rattle.schedule.specs.Run.{ran}
 use Rattle.schedule.specs.RunLaws.{run-reached}
 use Rattle.schedule.specs.Turns.{RanOn}
-use Rattle.promised.specs.Lent.{Lent}
-use Rattle.promised.specs.LentLaws.{Tells, tells, lent, Explained, explained}
+use Rattle.promised.specs.Lent.{Lent, Explained}
+use Rattle.promised.specs.LentLaws.{Tells, tells, lent, explained}
 
 module _ (b : Bench) (bytes : List ℕ) (at : ℕ) (messages : List Message) (rows : List Row) (l : Lent b messages rows) (r : Stepped)
     (messages′ : List Message) (rows′ : List Row) (run : RanOn b bytes at messages rows r messages′ rows′) where

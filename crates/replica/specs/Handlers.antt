@@ -183,13 +183,13 @@ downRefusal number fits crashed = cond fits (cond crashed number 0) 18
 
 -- a read is begun inside the ranges, by a replica that is up and idle
 unfoldable pub readRefusal : Replica → ℕ → ℕ → ℕ
-readRefusal r x row = beginRefusal (replicaFits r && within x 16 && within row 1024) (r .crashed) (isIdle (r .phase))
+readRefusal r x row = beginRefusal (replicaFits 7 r && within x 16 && within row 1024) (r .crashed) (isIdle (r .phase))
 
 unfoldable pub readBegun : Replica → ℕ → ℕ → Answer
 readBegun r x row = unlessRefused (readRefusal r x row) r (readRule r x row)
 
 unfoldable pub writeRefusal : Replica → Pid → ℕ → ℕ → ℕ
-writeRefusal r me x row = beginRefusal (replicaFits r && within (me .0) 7 && within x 16 && within row 1024) (r .crashed) (isIdle (r .phase))
+writeRefusal r me x row = beginRefusal (replicaFits 7 r && within (me .0) 7 && within x 16 && within row 1024) (r .crashed) (isIdle (r .phase))
 
 unfoldable pub writeBegun : Replica → Pid → ℕ → ℤ → ℕ → Answer
 writeBegun r me x value row = unlessRefused (writeRefusal r me x row) r (writeRule r me x value row)
@@ -199,7 +199,7 @@ abbrev pub storedFits : Replica → ℕ → Bool
 storedFits r x = within x 16 && pairFits 12000 7 (stored r x)
 
 abbrev pub requestFits : Replica → Pid → Time → Rid → ℕ → Bool
-requestFits r from time rid x = replicaFits r && senderFits from time rid && storedFits r x
+requestFits r from time rid x = replicaFits 7 r && senderFits 7 from time rid && storedFits r x
 
 unfoldable pub queryRefusal : Replica → Pid → Time → Rid → ℕ → ℕ
 queryRefusal r from time rid x = downRefusal 13 (requestFits r from time rid x) (r .crashed)
@@ -213,8 +213,9 @@ updateRefusal r from time rid x pair = downRefusal 13 (requestFits r from time r
 unfoldable pub updateReceived : Replica → Pid → Time → Rid → ℕ → Pair → Answer
 updateReceived r from time rid x pair = unlessRefused (updateRefusal r from time rid x pair) r (updateRule r from time rid x pair)
 
+-- a reply is counted, so here N is known: the sender is one of 1..N, and so are those that replied before it
 abbrev pub replyFits : Replica → ℕ → Pid → Time → Rid → Bool
-replyFits r n from time rid = replicaFits r && senderFits from time rid && within n 7
+replyFits r n from time rid = replicaFits n r && senderFits n from time rid && within n 7
 
 unfoldable pub responseRefusal : Replica → ℕ → ℕ → Pid → Time → Rid → Pair → ℕ
 responseRefusal r n x from time rid pair = downRefusal 13 (replyFits r n from time rid && within x 16 && pairFits 12000 7 pair) (r .crashed)
@@ -230,7 +231,7 @@ unfoldable pub ackReceived : Replica → ℕ → Pid → Time → Rid → Answer
 ackReceived r n from time rid = unlessRefused (ackRefusal r n from time rid) r (ackRule r n from time rid)
 
 unfoldable pub crashRefusal : Replica → ℕ
-crashRefusal r = downRefusal 10 (replicaFits r) (r .crashed)
+crashRefusal r = downRefusal 10 (replicaFits 7 r) (r .crashed)
 
 unfoldable pub crashed : Replica → Answer
 crashed r = unlessRefused (crashRefusal r) r (crashRule r)

@@ -1,9 +1,9 @@
 -- Document 01's ranges, as far as one replica can see them.
-use Prim.Native.Nat.{ℕ, _%_}
+use Prim.Native.Nat.{ℕ}
 use mathlib.Core.Bool.{Bool, true, _&&_}
-use lib.Dec.{leb, eqb}
+use lib.Dec.{leb}
 use Rattle.words.specs.declared.Pair.{Pair}
-use Rattle.words.specs.Ranges.{within, pairFits}
+use Rattle.words.specs.Ranges.{within, pairFits, repliersFit}
 use Rattle.replica.specs.declared.Phase.{Phase}
 use Rattle.replica.specs.declared.Phase.the-variants.{Idle, Querying, Updating}
 use Rattle.replica.specs.declared.Replica.{Replica}
@@ -17,6 +17,6 @@ phaseFits Idle = true
 phaseFits (Querying row best) = waitFits row best
 phaseFits (Updating row sent) = waitFits row sent
 
--- what every handler works with: the clock, the request number, the replier set (bit 0 is no process), the phase
-abbrev pub replicaFits : Replica → Bool
-replicaFits r = leb (r .clock .0) 12000 && leb (r .rid .0) 24000 && eqb (r .repliers % 2) 0 && phaseFits (r .phase)
+-- what every handler works with: the clock, the request number, the replier set of n processes, the phase
+abbrev pub replicaFits : ℕ → Replica → Bool
+replicaFits n r = leb (r .clock .0) 12000 && leb (r .rid .0) 24000 && repliersFit n (r .repliers) && phaseFits (r .phase)

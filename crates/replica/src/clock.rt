@@ -1,19 +1,24 @@
-// The clock, and its rule on receiving: larger of own and sender's time, plus 1. The handlers call `after_receiving`, by plain numbers.
+// The clock, and its rule on receiving: larger of own and sender's time, plus 1. All of it takes a `Time`, so that no request number is ever
+// compared with a clock. The handlers call `after_receiving`.
 ghost use mathlib.Core.Path.{_≡_};
 ghost use Prim.Native.Nat.{_<_};
-ghost use Rattle.replica.specs.Clock.{after, received};
+ghost use Rattle.replica.specs.Clock.{afterTime, received};
 use words::Time;
 
 pub struct Clock {
     pub time: Time,
 }
 
-// The rule, of plain numbers.
-fn later(own: u16, sent: u16) -> u16
-    requires { ⌜ (own < 65535) × (sent < 65535) ⌝ }
-    ensures { λ r. ⌜ r ≡ after own sent ⌝ }
+// The rule, of two times.
+fn later(own: Time, sent: Time) -> Time
+    requires { ⌜ (own .0 < 65535) × (sent .0 < 65535) ⌝ }
+    ensures { λ r. ⌜ r ≡ afterTime own sent ⌝ }
 {
-    if own < sent { sent + 1 } else { own + 1 }
+    if own.0 < sent.0 {
+        Time(sent.0 + 1)
+    } else {
+        Time(own.0 + 1)
+    }
 }
 
 // A clock that is lent goes by the rule.
@@ -21,16 +26,16 @@ pub fn receive(clock: &mut Clock, time: Time)
     requires { ⌜ (now clock .time .0 < 65535) × (time .0 < 65535) ⌝ }
     ensures { λ _. ⌜ now (clock .exit) ≡ received (now (clock .entry)) time ⌝ }
 {
-    let own = clock.time.0;
-    clock.time.0 = later(own, time.0);
+    let own = clock.time;
+    clock.time = later(own, time);
 }
 
-// The same for callers that have plain numbers: clock and time in, clock out.
-pub fn after_receiving(own: u16, sent: u16) -> u16
-    requires { ⌜ (own < 65535) × (sent < 65535) ⌝ }
-    ensures { λ r. ⌜ r ≡ after own sent ⌝ }
+// The same for callers that have no clock to lend: a clock's time and a message's in, the clock's next time out.
+pub fn after_receiving(own: Time, sent: Time) -> Time
+    requires { ⌜ (own .0 < 65535) × (sent .0 < 65535) ⌝ }
+    ensures { λ r. ⌜ r ≡ afterTime own sent ⌝ }
 {
-    let mut clock = Clock { time: Time(own) };
-    receive(&mut clock, Time(sent));
-    clock.time.0
+    let mut clock = Clock { time: own };
+    receive(&mut clock, sent);
+    clock.time
 }

@@ -23,13 +23,13 @@ fn phase_fits(phase: Phase) -> bool
     }
 }
 
-// The numbers that every handler works with. Bit 0 of the replier set stands for no process.
-pub fn replica_fits(r: Replica) -> bool
-    ensures { λ b. ⌜ b ≡ replicaFits r ⌝ }
+// The numbers that every handler works with. `n`: of how many processes the repliers may be.
+pub fn replica_fits(n: u8, r: Replica) -> bool
+    ensures { λ b. ⌜ b ≡ replicaFits n r ⌝ }
 {
     let phase = r.phase;
     (r.clock.0 <= ranges::EVENTS)
         & (r.rid.0 <= ranges::REQUESTS)
-        & (r.repliers % 2 == 0)
+        & ranges::repliers_fit(n, r.repliers)
         & phase_fits(phase)
 }

@@ -70,7 +70,7 @@ impl Replica {
             return sending::refuse(refusal, self);
         }
         let pair = store::pair_of(self, register);
-        let clock = Time(after_receiving(self.clock.0, time.0));
+        let clock = after_receiving(self.clock, time);
         self.clock = clock;
         sending::accept(self, sending::reply(from, clock, rid, Body::Response(pair)))
     }
@@ -89,7 +89,7 @@ impl Replica {
         if refusal != 0 {
             return sending::refuse(refusal, self);
         }
-        let clock = Time(after_receiving(self.clock.0, time.0));
+        let clock = after_receiving(self.clock, time);
         let newest = stamps::newer_of(store::pair_of(self, register), pair);
         self = store::with_pair(self, clock, register, newest);
         sending::accept(self, sending::reply(from, clock, rid, Body::Ack))
@@ -108,7 +108,7 @@ impl Replica {
         requires { ⌜ (self .clock .0 ≤ 12000) × (time .0 ≤ 12000) × (self .rid .0 ≤ 24000) ⌝ }
         ensures { λ r. ⌜ r ≡ responseCounted self n register from time row best ⌝ }
     {
-        let clock = Time(after_receiving(self.clock.0, time.0));
+        let clock = after_receiving(self.clock, time);
         let repliers = quorum::with(self.repliers, from.0);
         if quorum::is_majority(repliers, n) {
             let rid = Rid(self.rid.0 + 1);
@@ -152,7 +152,7 @@ impl Replica {
         requires { ⌜ (self .clock .0 ≤ 12000) × (time .0 ≤ 12000) × (self .rid .0 ≤ 24000) ⌝ }
         ensures { λ r. ⌜ r ≡ ackCounted self n from time row sent ⌝ }
     {
-        let clock = Time(after_receiving(self.clock.0, time.0));
+        let clock = after_receiving(self.clock, time);
         let repliers = quorum::with(self.repliers, from.0);
         if quorum::is_majority(repliers, n) {
             let rid = Rid(self.rid.0 + 1);

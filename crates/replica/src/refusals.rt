@@ -71,7 +71,7 @@ fn down_refusal(number: u8, fits: bool, crashed: bool) -> u8
 pub fn read_refusal(r: Replica, register: u8, row: u16) -> u8
     ensures { λ n. ⌜ n ≡ readRefusal r register row ⌝ }
 {
-    let fits = replica_fits(r) & is_within(register, REGISTERS) & row_fits(row);
+    let fits = replica_fits(PROCESSES, r) & is_within(register, REGISTERS) & row_fits(row);
     let phase = r.phase;
     begin_refusal(fits, r.crashed, phases::is_idle(phase))
 }
@@ -79,7 +79,7 @@ pub fn read_refusal(r: Replica, register: u8, row: u16) -> u8
 pub fn write_refusal(r: Replica, me: Pid, register: u8, row: u16) -> u8
     ensures { λ n. ⌜ n ≡ writeRefusal r me register row ⌝ }
 {
-    let fits = replica_fits(r)
+    let fits = replica_fits(PROCESSES, r)
         & is_within(me.0, PROCESSES)
         & is_within(register, REGISTERS)
         & row_fits(row);
@@ -101,7 +101,7 @@ fn stored_fits(r: Replica, register: u8) -> bool
 fn request_fits(r: Replica, from: Pid, time: Time, rid: Rid, register: u8) -> bool
     ensures { λ b. ⌜ b ≡ requestFits r from time rid register ⌝ }
 {
-    replica_fits(r) & sender_fits(from, time, rid) & stored_fits(r, register)
+    replica_fits(PROCESSES, r) & sender_fits(PROCESSES, from, time, rid) & stored_fits(r, register)
 }
 
 pub fn query_refusal(r: Replica, from: Pid, time: Time, rid: Rid, register: u8) -> u8
@@ -121,10 +121,11 @@ pub fn update_refusal(r: Replica, from: Pid, time: Time, rid: Rid, register: u8,
     down_refusal(RECIPIENT_CRASHED, fits, r.crashed)
 }
 
+// A reply is counted, so N is known here: the sender is one of 1 to `n`, and so are those that replied before it.
 fn reply_fits(r: Replica, n: u8, from: Pid, time: Time, rid: Rid) -> bool
     ensures { λ b. ⌜ b ≡ replyFits r n from time rid ⌝ }
 {
-    replica_fits(r) & sender_fits(from, time, rid) & is_within(n, PROCESSES)
+    replica_fits(n, r) & sender_fits(n, from, time, rid) & is_within(n, PROCESSES)
 }
 
 pub fn response_refusal(
@@ -157,5 +158,5 @@ pub fn ack_refusal(r: Replica, n: u8, from: Pid, time: Time, rid: Rid) -> u8
 pub fn crash_refusal(r: Replica) -> u8
     ensures { λ n. ⌜ n ≡ crashRefusal r ⌝ }
 {
-    down_refusal(CRASHED, replica_fits(r), r.crashed)
+    down_refusal(CRASHED, replica_fits(PROCESSES, r), r.crashed)
 }

@@ -1,6 +1,6 @@
 -- What the checks allow is accepted: on a well-formed state no check holds, the handler is its plain rule, and the outcome is 0 with the next state.
 use Prim.Native.Nat.{ℕ, _+_, _-_, _≤_, _<_}
-use mathlib.Core.Path.{_≡_, refl, sym, ap, subst, _∙_}
+use mathlib.Core.Path.{_≡_, refl, ap, _∙_}
 use mathlib.Core.Bool.{Bool, true, false, not, _||_}
 use mathlib.Core.List.{[], _∷_, _++_}
 use lib.Dec.{leb}
@@ -8,28 +8,23 @@ use lib.IntN.{ℤ}
 use lib.ListN.{length}
 use borrow.Author.Tests.{lt-leb, le-ltb}
 use Rattle.words.specs.declared.Body.{Body}
-use Rattle.words.specs.declared.Body.the-variants.{Query, Response, Update, Ack}
 use Rattle.words.specs.declared.Message.{Message}
 use Rattle.words.specs.Ranges.{within}
-use Rattle.words.specs.Stamps.{newer}
 use Rattle.replica.specs.declared.Answer.{Answer}
-use Rattle.replica.specs.declared.Counts.{Counts}
-use Rattle.replica.specs.declared.Counts.the-variants.{Not, For}
 use Rattle.replica.specs.declared.Replica.{Replica}
 use Rattle.replica.specs.Handlers.{isIdle, readRule, writeRule, queryRule, updateRule, crashRule}
-use Rattle.replica.specs.Handlers.{responseCounts, responseTaken, responseRule, ackCounts, ackTaken, ackRule}
 use Rattle.replica.specs.Numbers.{sentBy, pointed}
 use Rattle.tables.specs.declared.Found.the-variants.{At as Place}
 use Rattle.tables.specs.Tables.{seek, removed}
 use Rattle.state.specs.State.{State, replicaOf}
-use Rattle.state.specs.Step.{Outcome, outcome, check, full, noRoom, invokeRefusal, deliverRefusal, crashRefusal, loseRefusal, askedRegister}
+use Rattle.state.specs.Step.{Outcome, outcome, check, full, noRoom, invokeRefusal, deliverRefusal, crashRefusal, loseRefusal}
 use Rattle.state.specs.Step.{moved, withoutMessage, readRow, writeRow, answeredRows, stepRead, stepWrite, stepDeliver, stepCrash, stepLose}
-use Rattle.state.specs.FollowsLaws.{either-way}
-use Rattle.state.specs.Accepted.{Invoked, Crashable, messageAt, recipientAt, plain, plainBy, readNext, writeNext, deliverNext, crashNext}
+use Rattle.state.specs.Accepted.{Invoked, Crashable, messageAt, recipientAt, plain, readNext, writeNext, deliverNext, crashNext}
 use Rattle.state.specs.Inside.{read-plain, write-plain, crash-plain, delivered-plain}
 use Rattle.state.specs.PairLaws.{ok-within}
 use Rattle.state.specs.WellLaws.{Well}
-use Rattle.sc_abd.specs.Answers.{isMajority, chosen, ended, asking, waiting, response-answers, ack-answers}
+use Rattle.sc_abd.specs.Answers.{Answers, plain-answers}
+use Rattle.sc_abd.specs.Answers.Answers.{replies, stores, discards, asks, chooses, waits, ends}
 
 -- accepted, with this next state
 abbrev pub done : State → Outcome
@@ -87,29 +82,16 @@ crash-allowed s w short p c =
 
 -- ---- a message
 
-abbrev Accepts : Answer → Type 0
-Accepts answer = answer .refusal ≡ 0
-
 -- the plain rules refuse nothing
-plain-accepts : (s : State) (r : Replica) (m : Message) (body : Body) → plainBy s r m body .refusal ≡ 0
-unfolding queryRule updateRule responseRule ackRule
-plain-accepts s r m (Query x) = refl
-plain-accepts s r m (Response pair) = go (responseCounts (r .phase) (r .rid) (m .rid))
-  where
-    go : (c : Counts) → responseTaken c r (s .n) (askedRegister s (r .phase)) (m .from) (m .time) pair .refusal ≡ 0
-    go Not = refl
-    go (For row best) =
-        subst Accepts (sym (response-answers r (s .n) (askedRegister s (r .phase)) (m .from) (m .time) row (newer best pair)))
-        (either-way Accepts (isMajority (s .n) r (m .from)) (chosen r (askedRegister s (r .phase)) (m .time) row (newer best pair))
-        (asking r (m .from) (m .time) row (newer best pair)) refl refl)
-plain-accepts s r m (Update x pair) = refl
-plain-accepts s r m Ack = go (ackCounts (r .phase) (r .rid) (m .rid))
-  where
-    go : (c : Counts) → ackTaken c r (s .n) (m .from) (m .time) .refusal ≡ 0
-    go Not = refl
-    go (For row sent) =
-        subst Accepts (sym (ack-answers r (s .n) (m .from) (m .time) row sent))
-        (either-way Accepts (isMajority (s .n) r (m .from)) (ended r (m .time) sent) (waiting r (m .from) (m .time) row sent) refl refl)
+accepts-all : {n register : ℕ} {r : Replica} {m : Message} {body : Body} {answer : Answer} → Answers n register r m body answer → answer .refusal ≡ 0
+unfolding queryRule updateRule
+accepts-all (replies y) = refl
+accepts-all (stores y pair) = refl
+accepts-all (discards body) = refl
+accepts-all (asks pair row best f present few) = refl
+accepts-all (chooses pair row best f present many) = refl
+accepts-all (waits row sent f present few) = refl
+accepts-all (ends row sent f present many) = refl
 
 module _ (s : State) (w : Well s) (room : s .accepted < 12000) (k i : ℕ) (found : seek k 0 (s .flight) ≡ Place i) where
   pub deliver-allowed : length (s .rows) ≤ 1024 → i < length (s .flight) → recipientAt s i .crashed ≡ false
@@ -121,7 +103,7 @@ module _ (s : State) (w : Well s) (room : s .accepted < 12000) (k i : ℕ) (foun
       (ap (λ (answer : Answer). outcome s (deliverRefusal s (recipientAt s i) answer) (next answer)) (delivered-plain s w short i l up)
       ∙ accepts s _ (deliverNext s i)
       (pass (recipientAt s i .crashed) 13 _ up
-      (pass (noRoom room-after) 15 _ (has-room room-after flight) (plain-accepts s (recipientAt s i) (messageAt s i) (messageAt s i .body)))))
+      (pass (noRoom room-after) 15 _ (has-room room-after flight) (accepts-all (plain-answers s (recipientAt s i) (messageAt s i) (messageAt s i .body))))))
     where
       next : Answer → State
       next answer =

@@ -1,20 +1,30 @@
--- The four answers to a reply that counts: with it a majority has replied, or not yet.
+-- What the plain rules answer to a message, as cases. The four answers to a reply that counts: with it a majority has replied, or not yet.
 use Prim.Native.Nat.{ℕ, _+_}
 use mathlib.Core.Path.{_≡_, refl}
-use mathlib.Core.Bool.{Bool, cond}
-use lib.Dec.{leb}
-use Rattle.words.specs.declared.Body.the-variants.{Update}
+use mathlib.Core.Bool.{Bool, true, false, cond}
+use lib.Dec.{eqb, leb}
+use borrow.Author.Tests.{eqb-true}
+use Rattle.words.specs.declared.Body.{Body}
+use Rattle.words.specs.declared.Body.the-variants.{Query, Response, Update, Ack}
+use Rattle.words.specs.declared.Message.{Message}
 use Rattle.words.specs.declared.Pair.{Pair}
 use Rattle.words.specs.declared.Pid.{Pid}
 use Rattle.words.specs.declared.Time.{Time}
 use Rattle.words.specs.Quorum.{joined, counted, majorityOf}
+use Rattle.words.specs.Stamps.{newer}
 use Rattle.replica.specs.declared.Answer.{Answer}
+use Rattle.replica.specs.declared.Counts.the-variants.{Not, For}
 use Rattle.replica.specs.declared.Ended.the-variants.{Pending, At}
+use Rattle.replica.specs.declared.Phase.{Phase}
 use Rattle.replica.specs.declared.Phase.the-variants.{Idle, Querying, Updating}
 use Rattle.replica.specs.declared.Replica.{Replica}
 use Rattle.replica.specs.declared.Sends.the-variants.{Nothing}
 use Rattle.replica.specs.Clock.{after}
-use Rattle.replica.specs.Handlers.{moved, accepted, broadcastOf, responseCounted, ackCounted}
+use Rattle.replica.specs.Handlers.{moved, accepted, discarded, broadcastOf, queryRule, updateRule}
+use Rattle.replica.specs.Handlers.{responseCounts, responseCounted, responseTaken, responseRule, ackCounts, ackCounted, ackTaken, ackRule}
+use Rattle.state.specs.State.{State}
+use Rattle.state.specs.Step.{askedRegister}
+use Rattle.state.specs.Accepted.{plainBy}
 
 -- with the sender the repliers are a majority
 abbrev pub isMajority : ℕ → Replica → Pid → Bool
@@ -51,3 +61,61 @@ pub ack-answers : (r : Replica) (n : ℕ) (from : Pid) (time : Time) (row : ℕ)
     → ackCounted r n from time row sent ≡ cond (isMajority n r from) (ended r time sent) (waiting r from time row sent)
 unfolding ackCounted
 ack-answers r n from time row sent = refl
+
+-- ---- the cases: a request is replied to; a reply that does not count is discarded; one that counts makes a majority, or does not
+
+pub data Answers (n x : ℕ) (r : Replica) (m : Message) : Body → Answer → Type 0 where
+  replies : (y : ℕ) → Answers n x r m (Query y) (queryRule r (m .from) (m .time) (m .rid) y)
+  stores : (y : ℕ) (pair : Pair) → Answers n x r m (Update y pair) (updateRule r (m .from) (m .time) (m .rid) y pair)
+  discards : (body : Body) → Answers n x r m body (discarded r)
+  asks : (pair : Pair) (row : ℕ) (best : Pair) → r .phase ≡ Querying row best → m .rid .0 ≡ r .rid .0 → isMajority n r (m .from) ≡ false
+      → Answers n x r m (Response pair) (asking r (m .from) (m .time) row (newer best pair))
+  chooses : (pair : Pair) (row : ℕ) (best : Pair) → r .phase ≡ Querying row best → m .rid .0 ≡ r .rid .0 → isMajority n r (m .from) ≡ true
+      → Answers n x r m (Response pair) (chosen r x (m .time) row (newer best pair))
+  waits : (row : ℕ) (sent : Pair) → r .phase ≡ Updating row sent → m .rid .0 ≡ r .rid .0 → isMajority n r (m .from) ≡ false
+      → Answers n x r m Ack (waiting r (m .from) (m .time) row sent)
+  ends : (row : ℕ) (sent : Pair) → r .phase ≡ Updating row sent → m .rid .0 ≡ r .rid .0 → isMajority n r (m .from) ≡ true
+      → Answers n x r m Ack (ended r (m .time) sent)
+
+module _ (n x : ℕ) (r : Replica) (m : Message) where
+  abbrev Given : Body → Answer → Type 0
+  Given = Answers n x r m
+
+  response-given : (pair : Pair) (phase : Phase) → r .phase ≡ phase
+      → Given (Response pair) (responseTaken (responseCounts phase (r .rid) (m .rid)) r n x (m .from) (m .time) pair)
+  unfolding responseCounted
+  response-given pair Idle f = Answers.discards (Response pair)
+  response-given pair (Updating row sent) f = Answers.discards (Response pair)
+  response-given pair (Querying row best) f = counts (eqb (m .rid .0) (r .rid .0)) refl
+    where
+      made : m .rid .0 ≡ r .rid .0 → (b : Bool) → isMajority n r (m .from) ≡ b
+          → Given (Response pair) (cond b (chosen r x (m .time) row (newer best pair)) (asking r (m .from) (m .time) row (newer best pair)))
+      made present true h = Answers.chooses pair row best f present h
+      made present false h = Answers.asks pair row best f present h
+
+      counts : (b : Bool) → eqb (m .rid .0) (r .rid .0) ≡ b
+          → Given (Response pair) (responseTaken (cond b (For row best) Not) r n x (m .from) (m .time) pair)
+      counts true g = made (eqb-true _ _ g) (isMajority n r (m .from)) refl
+      counts false g = Answers.discards (Response pair)
+
+  ack-given : (phase : Phase) → r .phase ≡ phase → Given Ack (ackTaken (ackCounts phase (r .rid) (m .rid)) r n (m .from) (m .time))
+  unfolding ackCounted
+  ack-given Idle f = Answers.discards Ack
+  ack-given (Querying row best) f = Answers.discards Ack
+  ack-given (Updating row sent) f = counts (eqb (m .rid .0) (r .rid .0)) refl
+    where
+      made : m .rid .0 ≡ r .rid .0 → (b : Bool) → isMajority n r (m .from) ≡ b
+          → Given Ack (cond b (ended r (m .time) sent) (waiting r (m .from) (m .time) row sent))
+      made present true h = Answers.ends row sent f present h
+      made present false h = Answers.waits row sent f present h
+
+      counts : (b : Bool) → eqb (m .rid .0) (r .rid .0) ≡ b → Given Ack (ackTaken (cond b (For row sent) Not) r n (m .from) (m .time))
+      counts true g = made (eqb-true _ _ g) (isMajority n r (m .from)) refl
+      counts false g = Answers.discards Ack
+
+pub plain-answers : (s : State) (r : Replica) (m : Message) (body : Body) → Answers (s .n) (askedRegister s (r .phase)) r m body (plainBy s r m body)
+unfolding responseRule ackRule
+plain-answers s r m (Query y) = Answers.replies y
+plain-answers s r m (Response pair) = response-given (s .n) (askedRegister s (r .phase)) r m pair (r .phase) refl
+plain-answers s r m (Update y pair) = Answers.stores y pair
+plain-answers s r m Ack = ack-given (s .n) (askedRegister s (r .phase)) r m (r .phase) refl

@@ -22,6 +22,7 @@ use Rattle.sc_abd.specs.System.{Call, System, Action, Enabled, without, 
 use Rattle.sc_abd.specs.Same.{packetOf, operationOf, Same}
 use Rattle.sc_abd.specs.Demand2.{Names, registerOf, Within as Limited}
 use Rattle.sc_abd.specs.Allowed.{done, read-allowed, write-allowed, deliver-allowed, crash-allowed, lose-allowed}
+use Rattle.sc_abd.specs.AsMany.{as-many-messages}
 use Rattle.sc_abd.specs.Idle.{idle-outstanding}
 use Rattle.sc_abd.specs.Numbering.{seek-place}
 use Rattle.sc_abd.specs.Packets.{packets-without}
@@ -64,10 +65,10 @@ module _ (s : State) (w : Well s) (n : Numbered s) (short : length (s .rows) ≤
 
   module _ (i : ℕ) (inside : i < length (a .transit)) where
     in-flight : i < length (s .flight)
-    in-flight = let e : length (map packetOf (s .flight)) ≡ length (a .transit) = ap length (same .flight) in omega (arith, length-map (s .flight) packetOf)
+    in-flight = omega (arith, as-many-messages s a same)
 
     -- as many messages are sent as the algorithm sends
-    sends-alike : sentBy (s .n) (plain s (recipientAt s i) (messageAt s i) .sends) ≡ length (onArrival a i .sends)
+    pub sends-alike : sentBy (s .n) (plain s (recipientAt s i) (messageAt s i) .sends) ≡ length (onArrival a i .sends)
     sends-alike =
         let sent = posted s (messageAt s i .to .0) (plain s (recipientAt s i) (messageAt s i) .sends) in
         let left = removed i (s .flight) in

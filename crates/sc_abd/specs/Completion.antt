@@ -2,7 +2,7 @@
 use Prim.Native.Nat.{ℕ, _-_, _≤_, _<_}
 use mathlib.Core.Path.{_≡_, refl, sym, ap, subst, _∙_}
 use mathlib.Core.Logic.{_≢_, _⊎_, inl, inr}
-use mathlib.Core.Bool.{Bool, true, false, cond}
+use mathlib.Core.Bool.{true}
 use mathlib.Core.List.{List, [], _∷_, _++_}
 use native.Mathlib.Decide.{ℕ-discrete}
 use native.Mathlib.Omega.{arith}
@@ -10,21 +10,17 @@ use lib.ListN.{length, getD, List·getD-append}
 use lib.Seq.{getD-set-other}
 use borrow.Author.Tests.{leb-true}
 use Rattle.words.specs.declared.Body.{Body}
-use Rattle.words.specs.declared.Body.the-variants.{Query, Response, Update, Ack}
+use Rattle.words.specs.declared.Body.the-variants.{Ack}
 use Rattle.words.specs.declared.Message.{Message}
 use Rattle.words.specs.declared.Pair.{Pair}
 use Rattle.words.specs.Quorum.{joined, counted, majorityOf}
 use Rattle.words.specs.QuorumLaws.{Inside, joined-inside}
-use Rattle.words.specs.Stamps.{newer}
 use Rattle.replica.specs.declared.Answer.{Answer}
-use Rattle.replica.specs.declared.Counts.{Counts}
-use Rattle.replica.specs.declared.Counts.the-variants.{Not, For}
 use Rattle.replica.specs.declared.Ended.{Ended}
 use Rattle.replica.specs.declared.Ended.the-variants.{Pending, At}
-use Rattle.replica.specs.declared.Phase.{Phase}
-use Rattle.replica.specs.declared.Phase.the-variants.{Idle, Querying, Updating}
+use Rattle.replica.specs.declared.Phase.the-variants.{Updating}
 use Rattle.replica.specs.declared.Replica.{Replica}
-use Rattle.replica.specs.Handlers.{queryRule, updateRule, responseCounts, responseTaken, responseRule, ackCounts, ackTaken, ackRule}
+use Rattle.replica.specs.Handlers.{queryRule, updateRule}
 use Rattle.replica.specs.Numbers.{pointed}
 use Rattle.tables.specs.declared.Found.the-variants.{At as Place}
 use Rattle.tables.specs.declared.Row.{Row}
@@ -32,16 +28,15 @@ use Rattle.tables.specs.Tables.{emptyRow, seek}
 use Rattle.state.specs.declared.Event.{Event}
 use Rattle.state.specs.declared.Event.the-variants.{Read, Write, Deliver, Crash, Lose}
 use Rattle.state.specs.State.{State, rowOf}
-use Rattle.state.specs.Step.{answeredRows, askedRegister, completed, step}
-use Rattle.state.specs.FollowsLaws.{either-way}
-use Rattle.state.specs.Accepted.{messageAt, recipientAt, plain, plainBy, deliverNext}
+use Rattle.state.specs.Step.{answeredRows, completed, step}
+use Rattle.state.specs.Accepted.{messageAt, recipientAt, plain, deliverNext}
 use Rattle.state.specs.Accepted.{read-accepted, write-accepted, deliver-accepted, crash-accepted, lose-accepted}
 use Rattle.state.specs.PairLaws.{Within}
-use Rattle.state.specs.PendingLaws.{Waiting, waits-process, pending-first}
+use Rattle.state.specs.PendingLaws.{pending-within, pending-process}
 use Rattle.state.specs.WellFormed.{pendingOf}
 use Rattle.state.specs.WellLaws.{MessageOk, PhaseOk, ReplicaOk, Well, message-at}
-use Rattle.sc_abd.specs.Answers.{isMajority, chosen, ended, asking, waiting, response-answers}
-use Rattle.sc_abd.specs.SameAck.{ack-not, ack-for}
+use Rattle.sc_abd.specs.Answers.{isMajority, Answers, plain-answers}
+use Rattle.sc_abd.specs.Answers.Answers.{replies, stores, discards, asks, chooses, waits, ends}
 use Rattle.sc_abd.specs.Numbering.{found-place}
 
 -- an ack of the present request, to the process that waits for that row; and with its sender the processes in the set are a majority of 1..N
@@ -68,39 +63,16 @@ record Ends (n : ℕ) (r : Replica) (m : Message) (body : Body) : Type 0 where
   pub phase : r .phase ≡ Updating row sent
   pub majority : isMajority n r (m .from) ≡ true
 
-ends : (s : State) (r : Replica) (m : Message) (body : Body) → (plainBy s r m body .ended ≡ Pending) ⊎ Ends (s .n) r m body
-unfolding queryRule updateRule responseRule ackRule
-ends s r m (Query x) = inl refl
-ends s r m (Update x pair) = inl refl
-ends s r m (Response pair) = inl (go (responseCounts (r .phase) (r .rid) (m .rid)))
-  where
-    EndsNothing : Answer → Type 0
-    EndsNothing answer = answer .ended ≡ Pending
-
-    go : (c : Counts) → EndsNothing (responseTaken c r (s .n) (askedRegister s (r .phase)) (m .from) (m .time) pair)
-    go Not = refl
-    go (For row best) =
-        subst EndsNothing (sym (response-answers r (s .n) (askedRegister s (r .phase)) (m .from) (m .time) row (newer best pair)))
-        (either-way EndsNothing (isMajority (s .n) r (m .from)) (chosen r (askedRegister s (r .phase)) (m .time) row (newer best pair))
-        (asking r (m .from) (m .time) row (newer best pair)) refl refl)
-ends s r m Ack =
-    elim (ℕ-discrete (m .rid .0) (r .rid .0)) [
-      | yes e ↦ present (r .phase) refl e
-      | no f ↦ inl (ap (λ (a : Answer). a .ended) (ack-not r (s .n) m f))
-    ]
-  where
-    made : (b : Bool) (row : ℕ) (sent : Pair) → isMajority (s .n) r (m .from) ≡ b → r .phase ≡ Updating row sent → m .rid .0 ≡ r .rid .0
-        → (cond b (ended r (m .time) sent) (waiting r (m .from) (m .time) row sent) .ended ≡ Pending) ⊎ Ends (s .n) r m Ack
-    made true row sent h f e = inr (record { ack = refl; present = e; row = row; sent = sent; phase = f; majority = h })
-    made false row sent h f e = inl refl
-
-    present : (phase : Phase) → r .phase ≡ phase → m .rid .0 ≡ r .rid .0
-        → (ackRule r (s .n) (m .from) (m .time) (m .rid) .ended ≡ Pending) ⊎ Ends (s .n) r m Ack
-    present Idle f e = inl (ap (λ x. ackTaken (ackCounts x (r .rid) (m .rid)) r (s .n) (m .from) (m .time) .ended) f)
-    present (Querying row best) f e = inl (ap (λ x. ackTaken (ackCounts x (r .rid) (m .rid)) r (s .n) (m .from) (m .time) .ended) f)
-    present (Updating row sent) f e =
-        subst (λ (a : Answer). (a .ended ≡ Pending) ⊎ Ends (s .n) r m Ack) (sym (ack-for r (s .n) m row sent f e))
-        (made (isMajority (s .n) r (m .from)) row sent refl f e)
+ends-or-not : {n register : ℕ} {r : Replica} {m : Message} {body : Body} {answer : Answer} → Answers n register r m body answer
+    → (answer .ended ≡ Pending) ⊎ Ends n r m body
+unfolding queryRule updateRule
+ends-or-not (replies y) = inl refl
+ends-or-not (stores y pair) = inl refl
+ends-or-not (discards body) = inl refl
+ends-or-not (asks pair row best f present few) = inl refl
+ends-or-not (chooses pair row best f present many) = inl refl
+ends-or-not (waits row sent f present few) = inl refl
+ends-or-not (ends row sent f present many) = inr (record { ack = refl; present = present; row = row; sent = sent; phase = f; majority = many })
 
 -- a row changes only where an operation ends
 unended : (rows : List Row) (number : ℕ) (ended : Ended) (j : ℕ) → j ≢ number - 1 → getD (answeredRows rows number ended) j emptyRow ≡ getD rows j emptyRow
@@ -110,7 +82,7 @@ unended rows number (At time pair) j n = getD-set-other rows (number - 1) j (com
 module _ (s : State) (w : Well s) (row : ℕ) (old : Within row (length (s .rows))) (pending : rowOf s row .answered .0 ≡ 0) where
   delivery-completes : (k i : ℕ) → i < length (s .flight) → seek k 0 (s .flight) ≡ Place i
       → rowOf (deliverNext s i) row .answered .0 ≢ 0 → Completes s (Deliver k) row
-  delivery-completes k i l found new = go (ends s r m (m .body))
+  delivery-completes k i l found new = go (ends-or-not (plain-answers s r m (m .body)))
     where
       m : Message
       m = messageAt s i
@@ -145,22 +117,17 @@ module _ (s : State) (w : Well s) (row : ℕ) (old : Within row (length (s .rows
           waiting-row : pendingOf (m .to .0) 1 (s .rows) ≡ c .row ∷ []
           waiting-row = subst (λ x. PhaseOk s (m .to .0) x (r .repliers)) (c .phase) (mine .phase) .0
 
-          first : Waiting (m .to .0) 1 (s .rows) (c .row)
-          first = pending-first (m .to .0) 1 (s .rows) (c .row) [] waiting-row
-
           here : c .row ≡ row
           here =
               elim (ℕ-discrete (c .row) row) [
                 | yes e ↦ e
                 | no n ↦
-                    let other : row - 1 ≢ pointed (r .phase) - 1 = λ e. n (omega (arith, ap pointed (c .phase), old .least, first .number)) in
+                    let other : row - 1 ≢ pointed (r .phase) - 1 = λ e. n (omega (arith, ap pointed (c .phase), old .least, pending-within (m .to .0) (c .row) (s .rows) waiting-row .least)) in
                     absurd (new (ap (λ (x : Row). x .answered .0) (unended (s .rows) (pointed (r .phase)) (plain s r m .ended) (row - 1) other) ∙ pending))
               ]
 
           own-row : rowOf s row .process .0 ≡ m .to .0
-          own-row =
-              let place : row - 1 ≡ first .place = omega (arith, first .number, here) in
-              ap (λ x. getD (s .rows) x emptyRow .process .0) place ∙ waits-process (m .to .0) (getD (s .rows) (first .place) emptyRow) (first .waiting)
+          own-row = pending-process (m .to .0) row (s .rows) (waiting-row ∙ ap (λ x. x ∷ []) here)
 
   -- behind the rows that were there others may be added
   unchanged : (new : Row) → rowOf s row .answered .0 ≡ getD (s .rows ++ (new ∷ [])) (row - 1) emptyRow .answered .0

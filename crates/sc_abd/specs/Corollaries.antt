@@ -1,7 +1,7 @@
 -- What a user of the bench may rely on, in a user's words.
-use Prim.Native.Nat.{ℕ, _+_, _-_, _≤_}
+use Prim.Native.Nat.{ℕ, _+_, _-_}
 use mathlib.Core.Path.{_≡_, refl, sym, ap, subst, subst₂, _∙_}
-use mathlib.Core.Logic.{_≢_, inl, inr}
+use mathlib.Core.Logic.{_≢_}
 use mathlib.Core.Bool.{true, false≢true}
 use mathlib.Core.List.{List, append-nil}
 use native.Mathlib.Omega.{arith}
@@ -10,11 +10,10 @@ use lib.Seq.{set-getD}
 use Rattle.words.specs.declared.Body.{Body}
 use Rattle.words.specs.declared.Body.the-variants.{Query, Response, Update, Ack}
 use Rattle.words.specs.declared.Message.{Message}
-use Rattle.words.specs.Quorum.{member, joined, counted, majorityOf}
-use Rattle.words.specs.QuorumLaws.{Inside, joined-only}
 use Rattle.replica.specs.declared.Replica.{Replica}
 use Rattle.replica.specs.Handlers.{discarded}
 use Rattle.tables.specs.declared.Found.the-variants.{At as Place}
+use Rattle.tables.specs.declared.Kind.the-variants.{Read}
 use Rattle.tables.specs.Tables.{seek, removed}
 use Rattle.state.specs.declared.Event.{Event}
 use Rattle.state.specs.declared.Event.the-variants.{Deliver}
@@ -33,9 +32,9 @@ use Rattle.sc_abd.specs.SameAck.{ack-not}
 use Rattle.sc_abd.specs.SameResponse.{nextBy, response-not}
 use Rattle.sc_abd.specs.Numbering.{found-place}
 use Rattle.sc_abd.specs.Completion.{Completes, event-completes}
-use Rattle.sc_abd.specs.Replied.{Replied, longer}
-use Rattle.sc_abd.specs.Replied.Replied.{now, earlier}
-use Rattle.sc_abd.specs.RepliedKept.{repliers-replied}
+use Rattle.sc_abd.specs.Replied.{MajorityReplied, Queried, Majorities, UpdatesRead, longer}
+use Rattle.sc_abd.specs.RepliedKept.{majority-replied, repliers-replied}
+use Rattle.sc_abd.specs.QueriedKept.{reads-queried}
 use Rattle.sc_abd.specs.Theorem.{reached-well, step-meets-demand2}
 
 -- ---- a refused event changes nothing
@@ -89,43 +88,15 @@ late-reply-changes-nothing s r k i found z reply late =
     delivered-place s (reached-well r) k i found z
     ∙ discarded-next s i (late-discarded s (recipientAt s i) (messageAt s i) (messageAt s i .body) reply late)
 
--- ---- no operation is complete before a majority has replied to its last phase
-
--- a majority of the processes 1..n have acked p's request of this number, each at a moment of the run
-pub record MajorityAcked (n p rid : ℕ) (run : List Moment) : Type 0 where
-  pub processes : ℕ
-  pub inside : Inside n processes
-  pub majority : majorityOf n ≤ counted processes
-  pub each : (j : ℕ) → member processes j ≡ true → Replied p j rid Stage.updating run
+-- ---- no operation is complete before its majority has replied: of a read, to its query and then to its update; of a write, to its update
 
 -- a row that was pending and is answered after an event: of its process, and of the request number that this had before the event
 pub complete-after-majority : {s : State} {run : List Moment} → Run s run → (e : Event) → step s e .refusal ≡ 0
     → (row : ℕ) → Within row (length (s .rows)) → rowOf s row .answered .0 ≡ 0 → rowOf (step s e .state) row .answered .0 ≢ 0
-    → MajorityAcked (s .n) (rowOf s row .process .0) (replicaOf s (rowOf s row .process .0) .rid .0) (longer s e run)
+    → Majorities (s .n) (rowOf s row .process .0) (replicaOf s (rowOf s row .process .0) .rid .0) (rowOf s row .kind) run (record { before = s; event = e })
 complete-after-majority {s} {run} run-to e z row old pending new =
-    subst₂ (λ p x. MajorityAcked (s .n) p (replicaOf s p .rid .0) (longer s x run)) (sym (c .process)) (sym (c .event))
-    (record {
-      processes = joined (r .repliers) (m .from .0);
-      inside = c .processes;
-      majority = c .majority;
-      each = λ j h. elim (joined-only (r .repliers) (m .from .0) j h) [
-        | inl f ↦
-            now (record {
-              number = c .number;
-              place = c .place;
-              event = refl;
-              found = c .found;
-              reply = ap isReply (c .ack);
-              of-stage = ap stageFor (c .ack);
-              sender = f;
-              recipient = refl;
-              request = c .present;
-            })
-        | inr f ↦
-            earlier (subst (λ x. Replied (m .to .0) j (r .rid .0) (stageOf x) run) (c .phase)
-            (repliers-replied run-to .each (m .to .0) (ok .recipient .least) j f))
-      ];
-    })
+    subst₂ (λ p x. Majorities (s .n) p (replicaOf s p .rid .0) (rowOf s row .kind) run (record { before = s; event = x }))
+    (sym (c .process)) (sym (c .event)) (record { responses = responses; acks = acks })
   where
     w : Well s
     w = well s (reached-well-formed s (run-reached run-to))
@@ -141,3 +112,12 @@ complete-after-majority {s} {run} run-to e z row old pending new =
 
     ok : MessageOk s m
     ok = message-at s w (c .place) (c .in-flight)
+
+    responses : rowOf s row .kind ≡ Read → Queried (s .n) (m .to .0) (r .rid .0) run
+    responses read = reads-queried run-to .each (m .to .0) (ok .recipient) (subst (UpdatesRead (s .rows)) (sym (c .phase)) read)
+
+    acks : MajorityReplied (s .n) (m .to .0) (r .rid .0) Stage.updating (longer s (Deliver (c .number)) run)
+    acks =
+        subst (λ x. MajorityReplied (s .n) (m .to .0) (r .rid .0) (stageOf x) (longer s (Deliver (c .number)) run)) (c .phase)
+        (majority-replied s w run (repliers-replied run-to) (c .number) (c .place) (c .found) (m .to .0) (ok .recipient .least) refl
+        (ap isReply (c .ack)) (c .present) (ap stageFor (c .ack) ∙ ap stageOf (sym (c .phase))) (c .processes) (c .majority))

@@ -3,16 +3,19 @@ pub mod Algorithm1
 pub mod System
 pub mod Same
 pub mod Demand2
+pub mod Executions
 -- What is proved
 pub mod Theorem
 pub mod Corollaries
 pub mod SameLaws
 pub mod Impostors
+pub mod Uncounted
 -- Lists, places, packets, rows
 pub mod Lists
 pub mod Places
 pub mod Numbering
 pub mod Packets
+pub mod AsMany
 pub mod Histories
 pub mod Idle
 pub mod Answers
@@ -37,7 +40,9 @@ pub mod Complete
 -- Who has replied, and what completes an operation
 pub mod Replied
 pub mod RepliedKept
+pub mod QueriedKept
 pub mod Completion
 -- Runs of any bench
 pub mod Along
+pub mod ExecutionsLaws
 pub mod AnyBench

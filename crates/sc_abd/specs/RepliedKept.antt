@@ -2,27 +2,19 @@
 use Prim.Native.Nat.{ℕ, _+_, _≤_}
 use mathlib.Core.Path.{_≡_, refl, sym, ap, subst, _∙_}
 use mathlib.Core.Logic.{inl, inr}
-use mathlib.Core.Bool.{Bool, true, false, cond, false≢true}
+use mathlib.Core.Bool.{true, false≢true}
 use mathlib.Core.List.{List, []}
 use native.Mathlib.Decide.{ℕ-discrete}
 use native.Mathlib.Omega.{arith}
-use lib.Dec.{eqb}
 use lib.ListN.{length}
-use borrow.Author.Tests.{eqb-true}
 use Rattle.words.specs.declared.Body.{Body}
-use Rattle.words.specs.declared.Body.the-variants.{Query, Response, Update, Ack}
 use Rattle.words.specs.declared.Message.{Message}
-use Rattle.words.specs.declared.Pair.{Pair}
-use Rattle.words.specs.Quorum.{member, joined}
-use Rattle.words.specs.QuorumLaws.{joined-only}
+use Rattle.words.specs.Quorum.{member, joined, counted, majorityOf}
+use Rattle.words.specs.QuorumLaws.{Inside, joined-only}
 use Rattle.words.specs.Stamps.{newer}
 use Rattle.replica.specs.declared.Answer.{Answer}
-use Rattle.replica.specs.declared.Counts.the-variants.{Not, For}
-use Rattle.replica.specs.declared.Phase.{Phase}
-use Rattle.replica.specs.declared.Phase.the-variants.{Idle, Querying, Updating}
 use Rattle.replica.specs.declared.Replica.{Replica}
 use Rattle.replica.specs.Handlers.{discarded, readRule, writeRule, queryRule, updateRule, crashRule}
-use Rattle.replica.specs.Handlers.{responseCounts, responseTaken, responseRule, ackCounts, ackTaken, ackRule}
 use Rattle.tables.specs.declared.Found.the-variants.{At as Place}
 use Rattle.tables.specs.declared.Row.{Row}
 use Rattle.tables.specs.Tables.{seek, removed}
@@ -30,21 +22,21 @@ use Rattle.state.specs.declared.Event.{Event}
 use Rattle.state.specs.declared.Event.the-variants.{Read, Write, Deliver, Crash, Lose}
 use Rattle.state.specs.State.{State, fresh, replicaOf}
 use Rattle.state.specs.Step.{moved, step}
-use Rattle.state.specs.Accepted.{Invoked, messageAt, recipientAt, plain, plainBy}
+use Rattle.state.specs.Accepted.{Invoked, messageAt, recipientAt, plain}
 use Rattle.state.specs.Accepted.{read-accepted, write-accepted, deliver-accepted, crash-accepted, lose-accepted}
 use Rattle.state.specs.Counting.{Moment, Run}
-use Rattle.state.specs.Counting.Run.{begun, then}
+use Rattle.state.specs.Counting.RunBy.{begun, then}
 use Rattle.state.specs.CountingLaws.{run-reached}
-use Rattle.state.specs.FollowsLaws.{either-way}
 use Rattle.state.specs.Keeps.{reached-well-formed}
 use Rattle.state.specs.WellLaws.{Well, well, message-at}
-use Rattle.sc_abd.specs.Answers.{isMajority, chosen, ended, asking, waiting, response-answers, ack-answers}
+use Rattle.sc_abd.specs.Answers.{chosen, ended, asking, waiting, Answers, plain-answers}
+use Rattle.sc_abd.specs.Answers.Answers.{replies, stores, discards, asks, chooses, waits, ends}
 use Rattle.sc_abd.specs.Places.{own-after, other-after, fresh-replica}
 use Rattle.sc_abd.specs.RequestNumbers.{isReply, stageOf, stageFor}
 use Rattle.sc_abd.specs.RequestNumbersMove.{member-empty}
 use Rattle.sc_abd.specs.Idle.{idle-empty}
 use Rattle.sc_abd.specs.Numbering.{found-place}
-use Rattle.sc_abd.specs.Replied.{Filled, AllFilled, longer}
+use Rattle.sc_abd.specs.Replied.{Replied, MajorityReplied, Filled, AllFilled, longer}
 use Rattle.sc_abd.specs.Replied.Replied.{now, earlier}
 
 none-filled : (p : ℕ) (r : Replica) (run : List Moment) → r .repliers ≡ 0 → Filled p r run
@@ -87,72 +79,54 @@ module _ (s : State) (w : Well s) (run : List Moment) (filled : AllFilled s run)
     still : After (discarded (replicaOf s p))
     still = same-filled (Deliver k) p least (replicaOf s p) refl refl refl
 
-    -- a reply that counts, from a process that joins the set
-    joins : isReply (messageAt s i .body) ≡ true → messageAt s i .rid .0 ≡ replicaOf s p .rid .0
-        → stageFor (messageAt s i .body) ≡ stageOf (replicaOf s p .phase)
-        → (r : Replica) → r .repliers ≡ joined (replicaOf s p .repliers) (messageAt s i .from .0) → r .rid .0 ≡ replicaOf s p .rid .0
-        → stageOf (r .phase) ≡ stageOf (replicaOf s p .phase) → Filled p r (longer s (Deliver k) run)
-    joins reply present stage r set rid phase =
-        rw (set, rid, phase) (λ j h. elim (joined-only (replicaOf s p .repliers) (messageAt s i .from .0) j h) [
-          | inl e ↦
-              now (record {
-                number = k;
-                place = i;
-                event = refl;
-                found = found;
-                reply = reply;
-                of-stage = stage;
-                sender = e;
-                recipient = to;
-                request = present;
-              })
-          | inr m ↦ earlier (filled .each p least j m)
-        ])
+    -- a reply that counts: the members of the set have replied, and now its sender too
+    module _ (reply : isReply (messageAt s i .body) ≡ true) (present : messageAt s i .rid .0 ≡ replicaOf s p .rid .0)
+        (stage : stageFor (messageAt s i .body) ≡ stageOf (replicaOf s p .phase)) where
+      joined-replied : (j : ℕ) → member (joined (replicaOf s p .repliers) (messageAt s i .from .0)) j ≡ true
+          → Replied p j (replicaOf s p .rid .0) (stageOf (replicaOf s p .phase)) (longer s (Deliver k) run)
+      joined-replied j h =
+          elim (joined-only (replicaOf s p .repliers) (messageAt s i .from .0) j h) [
+            | inl e ↦
+                now (record {
+                  number = k;
+                  place = i;
+                  event = refl;
+                  found = found;
+                  reply = reply;
+                  of-stage = stage;
+                  sender = e;
+                  recipient = to;
+                  request = present;
+                })
+            | inr m ↦ earlier (filled .each p least j m)
+          ]
 
-    response-filled : (pair : Pair) (register : ℕ) → messageAt s i .body ≡ Response pair → (phase : Phase) → replicaOf s p .phase ≡ phase
-        → After (responseTaken (responseCounts phase (replicaOf s p .rid) (messageAt s i .rid)) (replicaOf s p) (s .n) register
-        (messageAt s i .from) (messageAt s i .time) pair)
-    response-filled pair register e Idle f = still
-    response-filled pair register e (Updating row sent) f = still
-    response-filled pair register e (Querying row best) f = go (eqb (messageAt s i .rid .0) (replicaOf s p .rid .0)) refl
-      where
-        go : (b : Bool) → eqb (messageAt s i .rid .0) (replicaOf s p .rid .0) ≡ b
-            → After (responseTaken (cond b (For row best) Not) (replicaOf s p) (s .n) register (messageAt s i .from) (messageAt s i .time) pair)
-        go true g =
-            let m = messageAt s i in
-            let r = replicaOf s p in
-            let greatest = newer best pair in
-            subst After (sym (response-answers r (s .n) register (m .from) (m .time) row greatest))
-            (either-way After (isMajority (s .n) r (m .from)) (chosen r register (m .time) row greatest) (asking r (m .from) (m .time) row greatest)
-            (none-filled p (chosen r register (m .time) row greatest .replica) _ refl)
-            (joins (ap isReply e) (eqb-true _ _ g) (ap stageFor e ∙ ap stageOf (sym f)) (asking r (m .from) (m .time) row greatest .replica) refl refl
-            (ap stageOf (sym f))))
-        go false g = still
+      joins : (r : Replica) → r .repliers ≡ joined (replicaOf s p .repliers) (messageAt s i .from .0) → r .rid .0 ≡ replicaOf s p .rid .0
+          → stageOf (r .phase) ≡ stageOf (replicaOf s p .phase) → Filled p r (longer s (Deliver k) run)
+      joins r set rid phase = rw (set, rid, phase) joined-replied
 
-    ack-filled : messageAt s i .body ≡ Ack → (phase : Phase) → replicaOf s p .phase ≡ phase
-        → After (ackTaken (ackCounts phase (replicaOf s p .rid) (messageAt s i .rid)) (replicaOf s p) (s .n) (messageAt s i .from) (messageAt s i .time))
-    ack-filled e Idle f = still
-    ack-filled e (Querying row best) f = still
-    ack-filled e (Updating row sent) f = go (eqb (messageAt s i .rid .0) (replicaOf s p .rid .0)) refl
-      where
-        go : (b : Bool) → eqb (messageAt s i .rid .0) (replicaOf s p .rid .0) ≡ b
-            → After (ackTaken (cond b (For row sent) Not) (replicaOf s p) (s .n) (messageAt s i .from) (messageAt s i .time))
-        go true g =
-            let m = messageAt s i in
-            let r = replicaOf s p in
-            subst After (sym (ack-answers r (s .n) (m .from) (m .time) row sent))
-            (either-way After (isMajority (s .n) r (m .from)) (ended r (m .time) sent) (waiting r (m .from) (m .time) row sent)
-            (none-filled p (ended r (m .time) sent .replica) _ refl)
-            (joins (ap isReply e) (eqb-true _ _ g) (ap stageFor e ∙ ap stageOf (sym f)) (waiting r (m .from) (m .time) row sent .replica) refl refl
-            (ap stageOf (sym f))))
-        go false g = still
+      -- where they are a majority
+      pub majority-replied : Inside (s .n) (joined (replicaOf s p .repliers) (messageAt s i .from .0))
+          → majorityOf (s .n) ≤ counted (joined (replicaOf s p .repliers) (messageAt s i .from .0))
+          → MajorityReplied (s .n) p (replicaOf s p .rid .0) (stageOf (replicaOf s p .phase)) (longer s (Deliver k) run)
+      majority-replied inside majority =
+          record { processes = joined (replicaOf s p .repliers) (messageAt s i .from .0); inside = inside; majority = majority; each = joined-replied }
 
-    taken-filled : (body : Body) → messageAt s i .body ≡ body → After (plainBy s (replicaOf s p) (messageAt s i) body)
-    unfolding queryRule updateRule responseRule ackRule
-    taken-filled (Query x) e = still
-    taken-filled (Response pair) e = response-filled pair _ e (replicaOf s p .phase) refl
-    taken-filled (Update x pair) e = still
-    taken-filled Ack e = ack-filled e (replicaOf s p .phase) refl
+    taken-filled : {register : ℕ} {body : Body} {answer : Answer} → Answers (s .n) register (replicaOf s p) (messageAt s i) body answer
+        → messageAt s i .body ≡ body → After answer
+    unfolding queryRule updateRule
+    taken-filled (replies y) e = still
+    taken-filled (stores y pair) e = still
+    taken-filled (discards body) e = still
+    taken-filled (asks pair row best f present few) e =
+        joins (ap isReply e) present (ap stageFor e ∙ ap stageOf (sym f))
+        (asking (replicaOf s p) (messageAt s i .from) (messageAt s i .time) row (newer best pair) .replica) refl refl (ap stageOf (sym f))
+    taken-filled {register} (chooses pair row best f present many) e =
+        none-filled p (chosen (replicaOf s p) register (messageAt s i .time) row (newer best pair) .replica) _ refl
+    taken-filled (waits row sent f present few) e =
+        joins (ap isReply e) present (ap stageFor e ∙ ap stageOf (sym f))
+        (waiting (replicaOf s p) (messageAt s i .from) (messageAt s i .time) row sent .replica) refl refl (ap stageOf (sym f))
+    taken-filled (ends row sent f present many) e = none-filled p (ended (replicaOf s p) (messageAt s i .time) sent .replica) _ refl
 
   event-filled : (e : Event) → step s e .refusal ≡ 0 → AllFilled (step s e .state) (longer s e run)
   unfolding step readRule writeRule crashRule
@@ -171,7 +145,8 @@ module _ (s : State) (w : Well s) (run : List Moment) (filled : AllFilled s run)
       subst (λ t. AllFilled t (longer s (Deliver k) run)) (sym (c .2))
       (moved-filled (Deliver k) (messageAt s i .to .0) (ok .recipient .least) (ok .recipient .most) (plain s (recipientAt s i) (messageAt s i))
       (removed i (s .flight)) _ _
-      (taken-filled k i (found-place s w k i (c .1 .found)) (messageAt s i .to .0) (ok .recipient .least) refl (messageAt s i .body) refl))
+      (taken-filled k i (found-place s w k i (c .1 .found)) (messageAt s i .to .0) (ok .recipient .least) refl
+      (plain-answers s (recipientAt s i) (messageAt s i) (messageAt s i .body)) refl))
   event-filled (Crash p) z =
       let c = crash-accepted s (p .0) z in
       let actor = c .0 .actor in

@@ -1,39 +1,30 @@
 -- Every event that is accepted keeps the invariant of request numbers, so every state that is reached has it.
 use Prim.Native.Nat.{ℕ, _+_, _≤_, _<_}
 use mathlib.Core.Path.{_≡_, refl, sym, ap, subst}
-use mathlib.Core.Bool.{Bool, true, false, cond}
 use mathlib.Core.List.{List}
 use native.Mathlib.Omega.{arith}
-use lib.Dec.{eqb}
 use lib.IntN.{ℤ}
 use lib.ListN.{length}
-use borrow.Author.Tests.{eqb-true}
 use Rattle.words.specs.declared.Body.{Body}
-use Rattle.words.specs.declared.Body.the-variants.{Query, Response, Update, Ack}
-use Rattle.words.specs.declared.Pair.{Pair}
 use Rattle.words.specs.Quorum.{member}
 use Rattle.words.specs.Stamps.{newer}
 use Rattle.replica.specs.declared.Answer.{Answer}
-use Rattle.replica.specs.declared.Phase.{Phase}
-use Rattle.replica.specs.declared.Phase.the-variants.{Idle, Querying, Updating}
 use Rattle.replica.specs.declared.Ended.the-variants.{Pending}
-use Rattle.replica.specs.declared.Counts.the-variants.{Not, For}
-use Rattle.replica.specs.Handlers.{discarded, readRule, writeRule, queryRule, updateRule, crashRule}
-use Rattle.replica.specs.Handlers.{responseCounts, responseTaken, responseRule, ackCounts, ackTaken, ackRule}
+use Rattle.replica.specs.Handlers.{readRule, writeRule, queryRule, updateRule, crashRule}
 use Rattle.tables.specs.declared.Row.{Row}
 use Rattle.tables.specs.Tables.{removed}
 use Rattle.state.specs.declared.Event.{Event}
 use Rattle.state.specs.declared.Event.the-variants.{Read, Write, Deliver, Crash, Lose}
 use Rattle.state.specs.State.{State, fresh, replicaOf}
 use Rattle.state.specs.Step.{moved, withoutMessage, step}
-use Rattle.state.specs.FollowsLaws.{either-way}
-use Rattle.state.specs.Accepted.{Invoked, Crashable, messageAt, plainBy, readNext, writeNext, crashNext}
+use Rattle.state.specs.Accepted.{Invoked, Crashable, messageAt, recipientAt, readNext, writeNext, crashNext}
 use Rattle.state.specs.Accepted.{read-accepted, write-accepted, deliver-accepted, crash-accepted, lose-accepted}
 use Rattle.state.specs.Keeps.{reached-well-formed}
 use Rattle.state.specs.Reached.{Reached}
 use Rattle.state.specs.Reached.Reached.{start, next as afterNext}
 use Rattle.state.specs.WellLaws.{Well, well, message-at}
-use Rattle.sc_abd.specs.Answers.{isMajority, chosen, ended, asking, waiting, response-answers, ack-answers}
+use Rattle.sc_abd.specs.Answers.{chosen, ended, asking, waiting, Answers, plain-answers}
+use Rattle.sc_abd.specs.Answers.Answers.{replies, stores, discards, asks, chooses, waits, ends}
 use Rattle.sc_abd.specs.Lists.{one}
 use Rattle.sc_abd.specs.Places.{fresh-replica}
 use Rattle.sc_abd.specs.RequestNumbers.{Numbered}
@@ -79,58 +70,27 @@ module _ (s : State) (w : Well s) (n : Numbered s) where
     abbrev Taken : Answer → Type 0
     Taken answer = Numbered (moved s p answer (removed i (s .flight)) (s .delivered + 1) rows)
 
-    discarded-numbered : Taken (discarded (replicaOf s p))
-    discarded-numbered =
+    taken-numbered : {register : ℕ} {body : Body} {answer : Answer} → Answers (s .n) register (replicaOf s p) (messageAt s i) body answer
+        → messageAt s i .body ≡ body → Taken answer
+    unfolding queryRule updateRule
+    taken-numbered (replies y) e =
+        replied-numbered s (w .seven) n i l p least most to (rw e refl) _ _ Pending (s .delivered + 1) rows refl refl refl refl refl (rw e refl)
+    taken-numbered (stores y pair) e =
+        replied-numbered s (w .seven) n i l p least most to (rw e refl) _ _ Pending (s .delivered + 1) rows refl refl refl refl refl (rw e refl)
+    taken-numbered (discards body) e =
         kept-numbered s (w .seven) n p least most (removed i (s .flight)) (rest-left s i l n) (replicaOf s p) Pending (s .delivered + 1) rows refl refl refl
-
-    response-numbered : (pair : Pair) (register : ℕ) → messageAt s i .body ≡ Response pair → (phase : Phase) → replicaOf s p .phase ≡ phase
-        → Taken (responseTaken (responseCounts phase (replicaOf s p .rid) (messageAt s i .rid)) (replicaOf s p) (s .n) register
-        (messageAt s i .from) (messageAt s i .time) pair)
-    response-numbered pair register e Idle f = discarded-numbered
-    response-numbered pair register e (Updating row sent) f = discarded-numbered
-    response-numbered pair register e (Querying row best) f = go (eqb (messageAt s i .rid .0) (replicaOf s p .rid .0)) refl
-      where
-        go : (b : Bool) → eqb (messageAt s i .rid .0) (replicaOf s p .rid .0) ≡ b
-            → Taken (responseTaken (cond b (For row best) Not) (replicaOf s p) (s .n) register (messageAt s i .from) (messageAt s i .time) pair)
-        go true g =
-            let m = messageAt s i in
-            let r = replicaOf s p in
-            let best = newer best pair in
-            subst Taken (sym (response-answers r (s .n) register (m .from) (m .time) row best))
-            (either-way Taken (isMajority (s .n) r (m .from)) _ _
-            (next-numbered s (w .seven) n p least most (removed i (s .flight)) (rest-left s i l n)
-            (chosen r register (m .time) row best) (s .delivered + 1) rows refl member-empty (refl, refl, refl))
-            (joined-numbered s (w .seven) n i l p least most to (rw e refl) (eqb-true _ _ g)
-            (asking r (m .from) (m .time) row best .replica) Pending (s .delivered + 1) rows refl (rw f refl) refl))
-        go false g = discarded-numbered
-
-    ack-numbered : messageAt s i .body ≡ Ack → (phase : Phase) → replicaOf s p .phase ≡ phase
-        → Taken (ackTaken (ackCounts phase (replicaOf s p .rid) (messageAt s i .rid)) (replicaOf s p) (s .n) (messageAt s i .from) (messageAt s i .time))
-    ack-numbered e Idle f = discarded-numbered
-    ack-numbered e (Querying row best) f = discarded-numbered
-    ack-numbered e (Updating row sent) f = go (eqb (messageAt s i .rid .0) (replicaOf s p .rid .0)) refl
-      where
-        go : (b : Bool) → eqb (messageAt s i .rid .0) (replicaOf s p .rid .0) ≡ b
-            → Taken (ackTaken (cond b (For row sent) Not) (replicaOf s p) (s .n) (messageAt s i .from) (messageAt s i .time))
-        go true g =
-            let m = messageAt s i in
-            let r = replicaOf s p in
-            subst Taken (sym (ack-answers r (s .n) (m .from) (m .time) row sent))
-            (either-way Taken (isMajority (s .n) r (m .from)) _ _
-            (next-numbered s (w .seven) n p least most (removed i (s .flight)) (rest-left s i l n)
-            (ended r (m .time) sent) (s .delivered + 1) rows refl member-empty tt)
-            (joined-numbered s (w .seven) n i l p least most to (rw e refl) (eqb-true _ _ g)
-            (waiting r (m .from) (m .time) row sent .replica) Pending (s .delivered + 1) rows refl (rw f refl) refl))
-        go false g = discarded-numbered
-
-    taken-numbered : (body : Body) → messageAt s i .body ≡ body → Taken (plainBy s (replicaOf s p) (messageAt s i) body)
-    unfolding queryRule updateRule responseRule ackRule
-    taken-numbered (Query x) e =
-        replied-numbered s (w .seven) n i l p least most to (rw e refl) _ _ Pending (s .delivered + 1) rows refl refl refl refl refl (rw e refl)
-    taken-numbered (Response pair) e = response-numbered pair _ e (replicaOf s p .phase) refl
-    taken-numbered (Update x pair) e =
-        replied-numbered s (w .seven) n i l p least most to (rw e refl) _ _ Pending (s .delivered + 1) rows refl refl refl refl refl (rw e refl)
-    taken-numbered Ack e = ack-numbered e (replicaOf s p .phase) refl
+    taken-numbered (asks pair row best f present few) e =
+        joined-numbered s (w .seven) n i l p least most to (rw e refl) present
+        (asking (replicaOf s p) (messageAt s i .from) (messageAt s i .time) row (newer best pair) .replica) Pending (s .delivered + 1) rows refl (rw f refl) refl
+    taken-numbered {register} (chooses pair row best f present many) e =
+        next-numbered s (w .seven) n p least most (removed i (s .flight)) (rest-left s i l n)
+        (chosen (replicaOf s p) register (messageAt s i .time) row (newer best pair)) (s .delivered + 1) rows refl member-empty (refl, refl, refl)
+    taken-numbered (waits row sent f present few) e =
+        joined-numbered s (w .seven) n i l p least most to (rw e refl) present
+        (waiting (replicaOf s p) (messageAt s i .from) (messageAt s i .time) row sent .replica) Pending (s .delivered + 1) rows refl (rw f refl) refl
+    taken-numbered (ends row sent f present many) e =
+        next-numbered s (w .seven) n p least most (removed i (s .flight)) (rest-left s i l n)
+        (ended (replicaOf s p) (messageAt s i .time) sent) (s .delivered + 1) rows refl member-empty tt
 
   event-numbered : (e : Event) → step s e .refusal ≡ 0 → Numbered (step s e .state)
   unfolding step
@@ -144,7 +104,7 @@ module _ (s : State) (w : Well s) (n : Numbered s) where
       let ok = message-at s w i (a .1 .found .inside) in
       subst Numbered (sym (a .2))
       (taken-numbered i (a .1 .found .inside) (messageAt s i .to .0) (ok .recipient .least) (omega (arith, ok .recipient .most, w .processes .most)) refl _
-      (messageAt s i .body) refl)
+      (plain-answers s (recipientAt s i) (messageAt s i) (messageAt s i .body)) refl)
   event-numbered (Crash p) z = let a = crash-accepted s (p .0) z in subst Numbered (sym (a .1)) (crash-numbered (p .0) (a .0))
   event-numbered (Lose k) z = let a = lose-accepted s k z in subst Numbered (sym (a .2)) (lose-numbered (a .0) (a .1 .found .inside))
 

@@ -31,7 +31,7 @@ use Rattle.state.specs.Step.{kept, completed}
 use Rattle.state.specs.WellFormed.{pendingOf}
 use Rattle.state.specs.Accepted.{messageAt}
 use Rattle.state.specs.PairLaws.{Within}
-use Rattle.state.specs.PendingLaws.{waits, waits-process, pending-first, pending-within, pending-same, pending-done}
+use Rattle.state.specs.PendingLaws.{waits, waits-other, pending-within, pending-process, pending-same, pending-done}
 use Rattle.state.specs.WellLaws.{Well}
 use Rattle.sc_abd.specs.Algorithm1.{Process, Reply, Return, Done, join, majority, unhandled, ackCounted as paperCounted, onAck}
 use Rattle.sc_abd.specs.System.{System, isOpen, without, returning, historyAfter}
@@ -80,29 +80,22 @@ paper-for n q j lt rid responses e f = rw (eq-eqb (q .rid) rid e, f) refl
 
 -- ---- the row that completes
 
--- a row that is pending for p is p's
-owner : (s : State) (p row : ℕ) → pendingOf p 1 (s .rows) ≡ row ∷ [] → rowOf s row .process .0 ≡ p
-owner s p row e =
-    let g = pending-first p 1 (s .rows) row [] e in
-    let place : row - 1 ≡ g .place = omega (arith, g .number) in
-    ap (λ k. getD (s .rows) k emptyRow .process .0) place ∙ waits-process p (getD (s .rows) (g .place) emptyRow) (g .waiting)
-
 -- the operations of the others are as they were
 completed-kept : (s : State) (p row : ℕ) → pendingOf p 1 (s .rows) ≡ row ∷ [] → (time : Time) (pair : Pair)
     → (q : ℕ) → (q ≡ p → ⊥) → RowsKept s (set (s .rows) (row - 1) (completed (rowOf s row) time pair)) q
 completed-kept s p row e time pair q n =
     record {
-      pending = pending-same q 1 (s .rows) (row - 1) new (not-waiting new (owner s p row e) ∙ sym (not-waiting (rowOf s row) (owner s p row e)));
+      pending = pending-same q 1 (s .rows) (row - 1) new (waits-other p q new owner n ∙ sym (waits-other p q (rowOf s row) owner n));
       row = λ other f.
           getD-set-other (s .rows) (row - 1) (other - 1) new emptyRow
-          (λ x. n (sym (owner s q other f) ∙ ap (λ k. getD (s .rows) k emptyRow .process .0) x ∙ owner s p row e));
+          (λ x. n (sym (pending-process q other (s .rows) f) ∙ ap (λ k. getD (s .rows) k emptyRow .process .0) x ∙ owner));
     }
   where
     new : Row
     new = completed (rowOf s row) time pair
 
-    not-waiting : (r : Row) → r .process .0 ≡ p → waits q r ≡ false
-    not-waiting r z = ap (λ (b : Bool). b && eqb (r .answered .0) 0) (ne-eqb (r .process .0) q (λ y. n (sym y ∙ z)))
+    owner : rowOf s row .process .0 ≡ p
+    owner = pending-process p row (s .rows) e
 
 -- the pair of a completed row is the one that was sent
 kept-sent : (row : Row) (sent : Pair) (q : Process) (asks : Bool) → SameUpdate row sent q asks → tsvOf (kept (row .kind) row sent) ≡ q .tsv

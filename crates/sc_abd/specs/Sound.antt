@@ -2,9 +2,8 @@
 use Prim.Native.Nat.{ℕ, _<_}
 use mathlib.Core.Path.{_≡_, sym, ap, ap₂, subst, _∙_}
 use mathlib.Core.Bool.{_||_}
-use mathlib.Core.List.{map}
 use native.Mathlib.Omega.{arith}
-use lib.ListN.{length, length-map}
+use lib.ListN.{length}
 use Rattle.state.specs.declared.Event.{Event}
 use Rattle.state.specs.declared.Event.the-variants.{Read, Write, Deliver, Crash, Lose}
 use Rattle.state.specs.State.{State, replicaOf}
@@ -12,8 +11,9 @@ use Rattle.state.specs.Step.{step}
 use Rattle.state.specs.Accepted.{messageAt, recipientAt, read-accepted, write-accepted, deliver-accepted, crash-accepted, lose-accepted}
 use Rattle.state.specs.WellLaws.{Well, message-at}
 use Rattle.sc_abd.specs.System.{Call, System, Action, Enabled, at, taken}
-use Rattle.sc_abd.specs.Same.{packetOf, Same}
+use Rattle.sc_abd.specs.Same.{Same}
 use Rattle.sc_abd.specs.Demand2.{Names}
+use Rattle.sc_abd.specs.AsMany.{as-many-messages}
 use Rattle.sc_abd.specs.Numbering.{found-place}
 use Rattle.sc_abd.specs.RequestNumbers.{Numbered}
 use Rattle.sc_abd.specs.SameInvocation.{invoke-enabled, same-read, same-write}
@@ -24,7 +24,7 @@ use Rattle.sc_abd.specs.SameFailure.{same-crash, same-lose}
 
 module _ (s : State) (w : Well s) (a : System) (same : Same s a) (i : ℕ) (l : i < length (s .flight)) where
   in-transit : i < length (a .transit)
-  in-transit = let e : length (map packetOf (s .flight)) ≡ length (a .transit) = ap length (same .flight) in omega (arith, length-map (s .flight) packetOf)
+  in-transit = omega (arith, as-many-messages s a same)
 
   pub sender-down : replicaOf s (messageAt s i .from .0) .crashed ≡ a .crashed (at a i .from)
   sender-down =

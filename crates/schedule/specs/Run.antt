@@ -9,7 +9,7 @@ use Rattle.state.specs.State.{State}
 use Rattle.state.specs.Step.{Outcome, step}
 use Rattle.format.specs.declared.Parse.{Parse}
 use Rattle.format.specs.declared.Parse.the-variants.{Next, Refused, End}
-use Rattle.format.specs.Format.{eventAt}
+use Rattle.format.specs.Format.{eventAt, parseRefusal}
 
 -- the number of refusal, 0 if the end was reached, and the state after the last accepted event
 pub record Ran : Type 0 where
@@ -25,8 +25,8 @@ followed s go o = cond (eqb (o .refusal) 0) (go (o .state)) (stopped (o .refusal
 
 -- what stands at a place, and what is done behind it
 abbrev pub turned : State → (ℕ → State → Ran) → Parse → Ran
-turned s go End = stopped 0 s
-turned s go (Refused number) = stopped number s
+turned s go End = stopped (parseRefusal End) s
+turned s go (Refused number) = stopped (parseRefusal (Refused number)) s
 turned s go (Next event at) = followed s (go at) (step s event)
 
 -- at most so many events, from a place on

@@ -15,6 +15,7 @@ use Rattle.state.specs.Step.{step}
 use Rattle.state.specs.Tabled.{benchOf}
 use Rattle.format.specs.declared.Parse.{Parse}
 use Rattle.format.specs.declared.Parse.the-variants.{Next, Refused, End}
+use Rattle.format.specs.Format.{parseRefusal}
 use Rattle.schedule.specs.declared.Turn.{Turn}
 use Rattle.schedule.specs.Run.{ran}
 
@@ -44,9 +45,7 @@ behindOf (Refused number) = 0
 behindOf End = 0
 
 abbrev pub numberOf : Parse → ℕ
-numberOf (Next event at) = 0
-numberOf (Refused number) = number
-numberOf End = 0
+numberOf parse = parseRefusal parse
 
 -- ---- the parts of a turn
 

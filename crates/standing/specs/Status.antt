@@ -15,11 +15,11 @@ use Rattle.standing.specs.declared.Standing.{Standing}
 use Rattle.standing.specs.declared.Statuses.{Statuses}
 
 -- document 01 names them in this order
-abbrev pub numberOf : Status → ℕ
-numberOf Down = 0
-numberOf Idle = 1
-numberOf Waiting = 2
-numberOf Stuck = 3
+abbrev pub statusNumber : Status → ℕ
+statusNumber Down = 0
+statusNumber Idle = 1
+statusNumber Waiting = 2
+statusNumber Stuck = 3
 
 -- down if crashed; a pending operation of a live process is stuck when fewer than a majority are up, otherwise waiting
 abbrev pub statusOf : Replica → Bool → Status

@@ -1,6 +1,7 @@
 -- Document 01: "At every moment the messages sent (N for each invocation, 1 for each request delivered, N for each query majority) equal those
 -- delivered, plus those lost, plus those in flight; the first three are counted over the events, the last over the table." Here they are counted
--- over the events: nothing below reads a counter of the state or what a handler sends.
+-- over the events: nothing below reads a counter of the state or what a handler sends. The rule is asked of any bench f, so that it is a promise and
+-- not a description of ours.
 use Prim.Native.Nat.{ℕ, _+_}
 use mathlib.Core.Path.{_≡_}
 use mathlib.Core.Bool.{Bool, true, false, cond, _&&_}
@@ -21,19 +22,23 @@ use Rattle.tables.specs.Tables.{seek}
 use Rattle.state.specs.declared.Event.{Event}
 use Rattle.state.specs.declared.Event.the-variants.{Read, Write, Deliver, Crash, Lose}
 use Rattle.state.specs.State.{State, fresh}
-use Rattle.state.specs.Step.{step}
+use Rattle.state.specs.Step.{Outcome, step}
 use Rattle.state.specs.Follows.{messageAt, receiverOf}
 
--- ---- a run: the accepted events from a fresh start, each with the state before it, the latest first
+-- ---- a run of a bench: the accepted events from a fresh start, each with the state before it, the latest first
 
 pub record Moment : Type 0 where
   pub before : State
   pub event : Event
 
-pub data Run : State → List Moment → Type 0 where
-  begun : (n m : ℕ) → within n 7 ≡ true → within m 16 ≡ true → Run (fresh n m) []
-  then : (s : State) (e : Event) (run : List Moment) → Run s run → step s e .refusal ≡ 0
-      → Run (step s e .state) (record { before = s; event = e } ∷ run)
+pub data RunBy (f : State → Event → Outcome) : State → List Moment → Type 0 where
+  begun : (n m : ℕ) → within n 7 ≡ true → within m 16 ≡ true → RunBy f (fresh n m) []
+  then : (s : State) (e : Event) (run : List Moment) → RunBy f s run → f s e .refusal ≡ 0
+      → RunBy f (f s e .state) (record { before = s; event = e } ∷ run)
+
+-- of our bench
+abbrev pub Run : State → List Moment → Type 0
+Run = RunBy step
 
 -- ---- what one event sends, delivers, loses
 
@@ -102,3 +107,7 @@ pub record Counted (s : State) (run : List Moment) : Type 0 where
   pub delivered : s .delivered ≡ deliveredOver run
   pub lost : s .lost ≡ lostOver run
   pub balance : sentOver run ≡ deliveredOver run + lostOver run + length (s .flight)
+
+-- the counting rule: so it is at every moment of every run
+abbrev pub CountingRule : (State → Event → Outcome) → Type 0
+CountingRule f = (s : State) (run : List Moment) → RunBy f s run → Counted s run

@@ -27,7 +27,7 @@ use Rattle.tables.specs.TableLaws.{seek-at}
 use Rattle.state.specs.declared.Event.{Event}
 use Rattle.state.specs.declared.Event.the-variants.{Read, Write, Deliver, Crash}
 use Rattle.state.specs.State.{State}
-use Rattle.state.specs.Step.{moved, posted, askedRegister}
+use Rattle.state.specs.Step.{moved, posted, askedRegister, step}
 use Rattle.state.specs.Reached.{Reached}
 use Rattle.state.specs.Reached.Reached.{start, next}
 use Rattle.state.specs.Follows.{Follows, readOf, writeOf, crashOf, ruleBy, ruleAt, messageAt, recipientOf, receiverOf}
@@ -37,8 +37,8 @@ use Rattle.state.specs.Refusals.{accepted-counts-once}
 use Rattle.state.specs.EveryLaws.{length-removed}
 use Rattle.state.specs.KeepsMoved.{posted-length}
 use Rattle.state.specs.Counting.{Moment, Run, isQuerying, makesMajority, makesQueryMajority, sentOnReceipt, sentOnFound}
-use Rattle.state.specs.Counting.{sentAt, deliveredAt, lostAt, Counted}
-use Rattle.state.specs.Counting.Run.{begun, then}
+use Rattle.state.specs.Counting.{sentAt, deliveredAt, lostAt, Counted, CountingRule}
+use Rattle.state.specs.Counting.RunBy.{begun, then}
 
 -- a message that was found is in the table
 pub seek-within : (k i : ℕ) (xs : List Message) → seek k 0 xs ≡ Place i → i < length xs
@@ -115,9 +115,9 @@ follows-tallied {s} (loses k i f) = omega (arith, length-removed i (s .flight) (
 
 -- ---- a run
 
-pub run-counted : {s : State} {run : List Moment} → Run s run → Counted s run
-run-counted (begun n m f g) = record { accepted = refl; sent = refl; delivered = refl; lost = refl; balance = refl }
-run-counted (then s e run r z) = continued (run-counted r) (accepted-counts-once s e z) (follows-tallied (accepted-follows s e z))
+pub run-counted : CountingRule step
+run-counted s run (begun n m f g) = record { accepted = refl; sent = refl; delivered = refl; lost = refl; balance = refl }
+run-counted t longer (then s e run r z) = continued (run-counted s run r) (accepted-counts-once s e z) (follows-tallied (accepted-follows s e z))
   where
     continued : {t : State} → Counted s run → t .accepted ≡ s .accepted + 1 → Tallied s e t → Counted t (record { before = s; event = e } ∷ run)
     continued c once d = omega arith

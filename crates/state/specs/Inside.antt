@@ -1,18 +1,18 @@
 -- On well-formed states the guarded handlers are the plain rules: for an invocation that no check refuses, for a message to a process that is up, and
 -- for the crash of one that is up. (The rows are to fit their table of 1,024: a handler refuses a replica that points behind it.)
-use Prim.Native.Nat.{ℕ, _+_, _%_, _≤_, _<_}
+use Prim.Native.Nat.{ℕ, _+_, _≤_, _<_}
 use mathlib.Core.Path.{_≡_, refl}
 use mathlib.Core.Bool.{Bool, true, false}
 use native.Mathlib.Omega.{arith}
 use lib.IntN.{ℤ}
 use lib.ListN.{length}
-use borrow.Author.Tests.{le-leb, eq-eqb}
+use borrow.Author.Tests.{le-leb}
 use Rattle.words.specs.declared.Body.{Body}
 use Rattle.words.specs.declared.Body.the-variants.{Query, Response, Update, Ack}
 use Rattle.words.specs.declared.Message.{Message}
 use Rattle.words.specs.declared.Pair.{Pair}
 use Rattle.words.specs.Ranges.{within, pairFits, senderFits}
-use Rattle.words.specs.RangeLaws.{and-left, and-right}
+use Rattle.words.specs.RangeLaws.{and-left, and-right, inside-fit, inside-wider}
 use Rattle.replica.specs.declared.Phase.{Phase}
 use Rattle.replica.specs.declared.Phase.the-variants.{Idle, Querying, Updating}
 use Rattle.replica.specs.Handlers.{stored, readRule, readBegun, writeRule, writeBegun, requestFits, replyFits}
@@ -40,9 +40,10 @@ module _ (s : State) (w : Well s) where
   register-inside : (x : ℕ) → Within x (s .m) → within x 16 ≡ true
   register-inside x h = within-wider x (s .m) 16 (w .registers .most) h
 
-  sender-inside : (x : Message) → MessageOk s x → senderFits (x .from) (x .time) (x .rid) ≡ true
-  sender-inside x k =
-      both (both (within-wider (x .from .0) (s .n) 7 (w .processes .most) (k .sender)) (le-leb (x .time .0) 12000 (omega (arith, k .time, w .events))))
+  -- the bench's own processes, or more
+  sender-inside : (n : ℕ) → s .n ≤ n → (x : Message) → MessageOk s x → senderFits n (x .from) (x .time) (x .rid) ≡ true
+  sender-inside n l x k =
+      both (both (within-wider (x .from .0) (s .n) n l (k .sender)) (le-leb (x .time .0) 12000 (omega (arith, k .time, w .events))))
       (le-leb (x .rid .0) 24000 (omega (arith, k .rid, w .events)))
 
   module _ (short : length (s .rows) ≤ 1024) (p : ℕ) (actor : Within p (s .n)) where
@@ -53,12 +54,12 @@ module _ (s : State) (w : Well s) where
     phase-inside (Updating row sent) repliers o =
         both (within-wider row (length (s .rows)) 1024 short (pending-within p row (s .rows) (o .0))) (pair-inside sent (o .1))
 
-    pub replica-inside : replicaFits (replicaOf s p) ≡ true
-    replica-inside =
+    pub replica-inside : (n : ℕ) → s .n ≤ n → replicaFits n (replicaOf s p) ≡ true
+    replica-inside n l =
         let o = w .replica p actor in
         let a = le-leb (replicaOf s p .clock .0) 12000 (omega (arith, o .clock, w .events)) in
         let b = le-leb (replicaOf s p .rid .0) 24000 (omega (arith, o .rid, w .events)) in
-        both (both (both a b) (eq-eqb (replicaOf s p .repliers % 2) 0 (o .inside .0)))
+        both (both (both a b) (inside-fit n (replicaOf s p .repliers) (inside-wider (s .n) n (replicaOf s p .repliers) l (o .inside))))
         (phase-inside (replicaOf s p .phase) (replicaOf s p .repliers) (o .phase))
 
 -- ---- an invocation that no check refuses
@@ -67,8 +68,8 @@ module _ (s : State) (w : Well s) (p x : ℕ) (i : Invoked s p x) where
   row-inside : within (length (s .rows) + 1) 1024 ≡ true
   row-inside = ok-within {x = length (s .rows) + 1} {most = 1024} (record { least = omega arith; most = omega (arith, i .rows) })
 
-  invoker-inside : replicaFits (replicaOf s p) ≡ true
-  invoker-inside = replica-inside s w (omega (arith, i .rows)) p (i .actor)
+  invoker-inside : replicaFits 7 (replicaOf s p) ≡ true
+  invoker-inside = replica-inside s w (omega (arith, i .rows)) p (i .actor) 7 (w .processes .most)
 
   pub read-plain : readBegun (replicaOf s p) x (length (s .rows) + 1) ≡ readRule (replicaOf s p) x (length (s .rows) + 1)
   read-plain =
@@ -85,16 +86,17 @@ module _ (s : State) (w : Well s) (p x : ℕ) (i : Invoked s p x) where
 
 module _ (s : State) (w : Well s) (short : length (s .rows) ≤ 1024) (p : ℕ) (actor : Within p (s .n)) (up : replicaOf s p .crashed ≡ false) where
   pub crash-plain : crashed (replicaOf s p) ≡ crashRule (replicaOf s p)
-  crash-plain = crash-is-rule (replicaOf s p) (replica-inside s w short p actor) up
+  crash-plain = crash-is-rule (replicaOf s p) (replica-inside s w short p actor 7 (w .processes .most)) up
 
   module _ (x : Message) (k : MessageOk s x) where
     request-inside : (y : ℕ) → Within y (s .m) → requestFits (replicaOf s p) (x .from) (x .time) (x .rid) y ≡ true
     request-inside y l =
-        both (both (replica-inside s w short p actor) (sender-inside s w x k))
+        both (both (replica-inside s w short p actor 7 (w .processes .most)) (sender-inside s w 7 (w .processes .most) x k))
         (both (register-inside s w y l) (pair-inside s w (stored (replicaOf s p) y) (stored-at s w p y actor l)))
 
     reply-inside : replyFits (replicaOf s p) (s .n) (x .from) (x .time) (x .rid) ≡ true
-    reply-inside = both (both (replica-inside s w short p actor) (sender-inside s w x k)) (ok-within (w .processes))
+    reply-inside =
+        both (both (replica-inside s w short p actor (s .n) (omega arith)) (sender-inside s w (s .n) (omega arith) x k)) (ok-within (w .processes))
 
     asked-inside : (phase : Phase) (repliers : ℕ) → PhaseOk s p phase repliers → within (askedRegister s phase) 16 ≡ true
     asked-inside Idle repliers o = refl

@@ -3,11 +3,9 @@ use Prim.Native.Nat.{ℕ, _+_, _-_, _≤_, _<_}
 use mathlib.Core.Path.{_≡_, refl, sym, ap, subst, _∙_}
 use mathlib.Core.Bool.{Bool, true, false, not, cond, _&&_, _||_, and-false}
 use mathlib.Core.List.{List, [], _∷_}
-use native.Mathlib.Decide.{ℕ-discrete}
 use native.Mathlib.Omega.{arith}
 use lib.Dec.{eqb, leb}
 use lib.ListN.{length, getD, set}
-use lib.Seq.{getD-set-same, getD-set-other}
 use borrow.Author.Tests.{ne-eqb}
 use Rattle.words.specs.declared.Body.{Body}
 use Rattle.words.specs.declared.Body.the-variants.{Query, Response, Update, Ack}
@@ -40,8 +38,9 @@ use Rattle.state.specs.FlightLaws.{rising-removed}
 use Rattle.state.specs.KeepsMoved.{SendsOk, moved-later, moved-well}
 use Rattle.state.specs.LaterLaws.{Later, kept-rows, body-later, pair-later, rows-later, replica-later}
 use Rattle.state.specs.PairLaws.{Within, within-ok}
-use Rattle.state.specs.PendingLaws.{Waiting, waits, waits-process, pending-first, pending-same, pending-done}
+use Rattle.state.specs.PendingLaws.{Waiting, waits, waits-other, pending-first, pending-process, pending-same, pending-done}
 use Rattle.state.specs.Quiet.{ahead, ahead-later, Quiet, received-clock, discarded-quiet, query-quiet, update-quiet, response-quiet, own-emptied, own-joined}
+use Rattle.state.specs.RowsLaws.{answered-stays}
 use Rattle.state.specs.WellLaws.{MessageOk, message-at, RowOk, ok-row, row-at, PhaseOk, Well}
 
 sends-later : (s t : State) → Later s t → (sends : Sends) → SendsOk s sends → SendsOk t sends
@@ -52,14 +51,6 @@ sends-later s t l (Broadcast letter) ok =
     record { time = omega (arith, ok .time, l .more); rid = omega (arith, ok .rid, l .more); body = body-later s t l (letter .body) (ok .body) }
 
 -- ---- a row that is completed
-
-completed-kind : (rows : List Row) (i j : ℕ) (time : Time) (pair : Pair) → i < length rows
-    → getD (set rows i (completed (getD rows i emptyRow) time pair)) j emptyRow .kind ≡ getD rows j emptyRow .kind
-completed-kind rows i j time pair l =
-    elim (ℕ-discrete j i) [
-      | yes e ↦ rw e (ap (λ (r : Row). r .kind) (getD-set-same rows i (completed (getD rows i emptyRow) time pair) emptyRow l))
-      | no f ↦ ap (λ (r : Row). r .kind) (getD-set-other rows i j (completed (getD rows i emptyRow) time pair) emptyRow f)
-    ]
 
 module _ (s t : State) (l : Later s t) (r : Row) (k : RowOk s r) (time : Time) (pair : Pair) where
   completed-ok : time .0 ≤ t .accepted → pairFits (t .accepted) (t .n) pair ≡ true → RowOk t (completed r time pair)
@@ -141,8 +132,8 @@ module _ (s : State) (w : Well s) (room : s .accepted < 12000) (i : ℕ) (inside
           sends = tt;
           others = λ q g.
               record {
-                pending = pending-same q 1 (s .rows) (row - 1) new (not-waiting q g new own-row ∙ sym (not-waiting q g old own-row));
-                kinds = λ j l. completed-kind (s .rows) (row - 1) (j - 1) (record { 0 = time }) sent place;
+                pending = pending-same q 1 (s .rows) (row - 1) new (waits-other p q new own-row g ∙ sym (waits-other p q old own-row g));
+                kinds = λ j l. answered-stays (λ r. r .kind) (λ r time pair. refl) (s .rows) row (At (record { 0 = time }) sent) (j - 1) (omega (arith, l .least, l .most));
               };
         })
       where
@@ -178,12 +169,7 @@ module _ (s : State) (w : Well s) (room : s .accepted < 12000) (i : ℕ) (inside
             ap (λ (b : Bool). eqb (new .process .0) p && b) (ne-eqb time 0 g) ∙ and-false (eqb (new .process .0) p)
 
         own-row : old .process .0 ≡ p
-        own-row =
-            let g : h .place ≡ row - 1 = omega (arith, h .number) in
-            waits-process p old (ap (λ (j : ℕ). waits p (getD (s .rows) j emptyRow)) (sym g) ∙ h .waiting)
-
-        not-waiting : (q : ℕ) → (q ≡ p → ⊥) → (r : Row) → r .process .0 ≡ p → waits q r ≡ false
-        not-waiting q g r z = ap (λ (b : Bool). b && eqb (r .answered .0) 0) (ne-eqb (r .process .0) q (λ y. g (sym y ∙ z)))
+        own-row = pending-process p row (s .rows) e
 
     -- ---- an ack, by the phase that it meets
     abbrev Takes : ℕ → Answer → Type 0

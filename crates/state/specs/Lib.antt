@@ -13,6 +13,7 @@ pub mod Accepted
 pub mod Refusals
 -- Counts and clocks
 pub mod CountingLaws
+pub mod MadeUp
 pub mod ClockGrowthLaws
 -- Every accepted event keeps what is well formed
 pub mod EveryLaws
@@ -21,6 +22,7 @@ pub mod PendingLaws
 pub mod PairLaws
 pub mod WellLaws
 pub mod LaterLaws
+pub mod RowsLaws
 pub mod KeepsMoved
 pub mod KeepsInvoke
 pub mod KeepsCrash

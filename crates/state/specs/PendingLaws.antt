@@ -1,12 +1,12 @@
 -- Laws of the pending rows of a process: what a number among them says of its row, and what becomes of them when a row is added or completed.
-use Prim.Native.Nat.{ℕ, zero, suc, _+_, _<_}
-use mathlib.Core.Path.{_≡_, refl, ap, _∙_}
+use Prim.Native.Nat.{ℕ, zero, suc, _+_, _-_, _<_}
+use mathlib.Core.Path.{_≡_, refl, sym, ap, _∙_}
 use mathlib.Core.Bool.{Bool, true, false, cond, _&&_}
 use mathlib.Core.List.{List, [], _∷_, _++_}
 use native.Mathlib.Omega.{arith}
 use lib.Dec.{eqb}
 use lib.ListN.{length, getD, set}
-use borrow.Author.Tests.{eqb-true}
+use borrow.Author.Tests.{eqb-true, ne-eqb}
 use Rattle.words.specs.RangeLaws.{and-left}
 use Rattle.tables.specs.declared.Row.{Row}
 use Rattle.tables.specs.Tables.{emptyRow}
@@ -19,6 +19,10 @@ waits p r = eqb (r .process .0) p && eqb (r .answered .0) 0
 
 pub waits-process : (p : ℕ) (r : Row) → waits p r ≡ true → r .process .0 ≡ p
 waits-process p r e = eqb-true _ _ (and-left _ _ e)
+
+-- a row of p is none of another process that is pending
+pub waits-other : (p q : ℕ) (r : Row) → r .process .0 ≡ p → (q ≡ p → ⊥) → waits q r ≡ false
+waits-other p q r own n = ap (λ (b : Bool). b && eqb (r .answered .0) 0) (ne-eqb (r .process .0) q (λ e. n (sym e ∙ own)))
 
 -- the number `row` stands for the place j of a list whose numbers begin with i, and a row of p is pending there
 pub record Waiting (p i : ℕ) (rows : List Row) (row : ℕ) : Type 0 where
@@ -45,6 +49,13 @@ pub pending-within : (p row : ℕ) (rows : List Row) → pendingOf p 1 rows ≡ 
 pending-within p row rows e =
     let h = pending-first p 1 rows row [] e in
     record { least = omega (arith, h .number); most = omega (arith, h .number, h .inside) }
+
+-- and p's
+pub pending-process : (p row : ℕ) (rows : List Row) → pendingOf p 1 rows ≡ row ∷ [] → getD rows (row - 1) emptyRow .process .0 ≡ p
+pending-process p row rows e =
+    let h = pending-first p 1 rows row [] e in
+    let place : row - 1 ≡ h .place = omega (arith, h .number) in
+    ap (λ (j : ℕ). getD rows j emptyRow .process .0) place ∙ waits-process p (getD rows (h .place) emptyRow) (h .waiting)
 
 pub pending-append : (p i : ℕ) (xs ys : List Row) → pendingOf p i (xs ++ ys) ≡ pendingOf p i xs ++ pendingOf p (i + length xs) ys
 pending-append p i [] ys = let e : i ≡ i + 0 = omega arith in ap (λ (j : ℕ). pendingOf p j ys) e

@@ -3,6 +3,7 @@
 use Prim.Native.Nat.{ℕ, suc, _+_, _-_}
 use mathlib.Core.Bool.{Bool, true, false, cond, not, _&&_, _||_}
 use mathlib.Core.List.{List, [], _∷_, _++_}
+use mathlib.Core.Option.{Option, some, none, Option·getD}
 use lib.Dec.{eqb, ltb, leb}
 use lib.IntN.{ℤ, pos}
 use lib.ListN.{length, getD, set}
@@ -24,7 +25,7 @@ use Rattle.replica.specs.declared.Replica.{Replica}
 use Rattle.replica.specs.declared.Sends.{Sends}
 use Rattle.replica.specs.declared.Sends.the-variants.{Nothing, Reply, Broadcast}
 use Rattle.replica.specs.Handlers.{isIdle, readBegun, writeBegun, queryReceived, updateReceived, responseReceived, ackReceived, crashed}
-use Rattle.replica.specs.Numbers.{sentBy, pointed}
+use Rattle.replica.specs.Numbers.{sentBy, answeredAt, chosenBy, pointed}
 use Rattle.tables.specs.declared.Found.{Found}
 use Rattle.tables.specs.declared.Found.the-variants.{At as Place, Missing}
 use Rattle.tables.specs.declared.Kind.{Kind}
@@ -83,10 +84,14 @@ writeRow p x value clock =
       value = value;
     }
 
+-- what an operation of a kind gives that ended with this pair: a read the chosen value, with its stamp; a write only "done"
+abbrev pub given : Kind → Pair → Option Pair
+given ReadKind pair = some pair
+given WriteKind pair = none
+
 -- a completed read has the pair it chose; a write keeps its own
 abbrev pub kept : Kind → Row → Pair → Pair
-kept ReadKind row pair = pair
-kept WriteKind row pair = record { stamp = row .stamp; value = row .value }
+kept kind row pair = Option·getD (given kind pair) (record { stamp = row .stamp; value = row .value })
 
 abbrev pub completed : Row → Time → Pair → Row
 completed row time pair =
@@ -100,9 +105,13 @@ completed row time pair =
       value = kept (row .kind) row pair .value;
     }
 
+-- the row of an operation that ended so: its response time, and the pair that was chosen
+abbrev pub endedRow : Row → Ended → Row
+endedRow row ended = completed row (record { 0 = answeredAt ended }) (chosenBy ended)
+
 abbrev pub answeredRows : List Row → ℕ → Ended → List Row
 answeredRows rows number Pending = rows
-answeredRows rows number (At time pair) = set rows (number - 1) (completed (getD rows (number - 1) emptyRow) time pair)
+answeredRows rows number (At time pair) = set rows (number - 1) (endedRow (getD rows (number - 1) emptyRow) (At time pair))
 
 -- ---- the next state
 
@@ -157,6 +166,11 @@ invokeRefusal s p x later =
     (check (leb 1024 (length (s .rows))) 16
     (check (noRoom (length (s .flight) + s .n)) 15 later))))))
 
+-- no such message in flight
+abbrev pub foundRefusal : Found → ℕ
+foundRefusal Missing = 12
+foundRefusal (Place i) = 0
+
 abbrev pub deliverRefusal : State → Replica → Answer → ℕ
 deliverRefusal s r answer =
     check (r .crashed) 13
@@ -201,7 +215,7 @@ stepWrite s p x value =
     (moved s p answer (s .flight) (s .delivered) (s .rows ++ (writeRow p x value (answer .replica .clock .0) ∷ [])))
 
 abbrev pub deliverAt : State → Found → Outcome
-deliverAt s Missing = outcome s 12 s
+deliverAt s Missing = outcome s (foundRefusal Missing) s
 deliverAt s (Place i) =
     let message = getD (s .flight) i emptyMessage in
     let p = message .to .0 in
@@ -219,7 +233,7 @@ stepCrash s p =
     outcome s (crashRefusal s p (answer .refusal)) (moved s p answer (s .flight) (s .delivered) (s .rows))
 
 abbrev pub loseAt : State → Found → Outcome
-loseAt s Missing = outcome s 12 s
+loseAt s Missing = outcome s (foundRefusal Missing) s
 loseAt s (Place i) = outcome s (loseRefusal s (getD (s .flight) i emptyMessage)) (withoutMessage s i)
 
 unfoldable pub stepLose : State → ℕ → Outcome

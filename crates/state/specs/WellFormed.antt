@@ -1,6 +1,6 @@
 -- Well formed: document 01's paragraph, clause by clause, for the state of a bench. (That the unused places of both tables are empty is said of
 -- the tables, in `Tabled`.)
-use Prim.Native.Nat.{ℕ, zero, suc, _+_, _*_, _%_, _^_}
+use Prim.Native.Nat.{ℕ, zero, suc, _+_, _*_}
 use mathlib.Core.Bool.{Bool, true, false, not, cond, _&&_, _||_}
 use mathlib.Core.List.{List, [], _∷_}
 use lib.Dec.{eqb, ltb, leb}
@@ -11,7 +11,7 @@ use Rattle.words.specs.declared.Body.the-variants.{Query, Response, Update, Ack
 use Rattle.words.specs.declared.Message.{Message}
 use Rattle.words.specs.declared.Pair.{Pair}
 use Rattle.words.specs.Quorum.{counted, majorityOf}
-use Rattle.words.specs.Ranges.{within, isZero, pairFits}
+use Rattle.words.specs.Ranges.{within, isZero, pairFits, repliersFit}
 use Rattle.replica.specs.declared.Phase.{Phase}
 use Rattle.replica.specs.declared.Phase.the-variants.{Idle, Querying, Updating}
 use Rattle.replica.specs.declared.Replica.{Replica}
@@ -101,8 +101,7 @@ pairsFit s (suc left) (p ∷ rest) = pairFits (s .accepted) (s .n) p && pairsFit
 abbrev pub replicaFits : State → ℕ → Replica → Bool
 replicaFits s p r =
     leb (r .clock .0) (s .accepted) && leb (r .rid .0) (2 * s .accepted) && eqb (length (r .pairs)) 16 && pairsFit s (s .m) (r .pairs)
-    && eqb (r .repliers % 2) 0 && ltb (r .repliers) (2 ^ (s .n + 1)) && ltb (counted (r .repliers)) (majorityOf (s .n))
-    && phaseFits s p (r .phase) (r .repliers)
+    && repliersFit (s .n) (r .repliers) && ltb (counted (r .repliers)) (majorityOf (s .n)) && phaseFits s p (r .phase) (r .repliers)
 
 -- processes behind N are up, idle and otherwise 0
 abbrev pub isFresh : Replica → Bool

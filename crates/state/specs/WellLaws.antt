@@ -1,5 +1,5 @@
 -- A well-formed state, as facts with names: `well` reads the test of `WellFormed` into the record `Well`, and `unwell` makes the test of it again.
-use Prim.Native.Nat.{ℕ, zero, suc, _+_, _-_, _*_, _%_, _^_, _≤_, _<_}
+use Prim.Native.Nat.{ℕ, zero, suc, _+_, _-_, _*_, _≤_, _<_}
 use mathlib.Core.Path.{_≡_, refl, ap, _∙_}
 use mathlib.Core.Bool.{Bool, true, false, not, cond, _&&_, _||_, false≢true}
 use mathlib.Core.List.{List, [], _∷_}
@@ -12,8 +12,8 @@ use borrow.Author.Tests.{ltb-true, leb-true, eqb-true, not-true, lt-ltb, le-leb,
 use Rattle.words.specs.declared.Message.{Message}
 use Rattle.words.specs.Quorum.{counted, majorityOf}
 use Rattle.words.specs.QuorumLaws.{Inside}
-use Rattle.words.specs.Ranges.{within, pairFits}
-use Rattle.words.specs.RangeLaws.{and-left, and-right}
+use Rattle.words.specs.Ranges.{within, pairFits, repliersFit}
+use Rattle.words.specs.RangeLaws.{and-left, and-right, fit-inside, inside-fit}
 use Rattle.words.specs.Stamps.{startPair}
 use Rattle.replica.specs.declared.Phase.{Phase}
 use Rattle.replica.specs.declared.Phase.the-variants.{Idle, Querying, Updating}
@@ -163,13 +163,11 @@ module _ (s : State) (p : ℕ) (r : Replica) where
       let b : Bool = leb (r .rid .0) (2 * s .accepted) in
       let c : Bool = eqb (length (r .pairs)) 16 in
       let d : Bool = pairsFit s (s .m) (r .pairs) in
-      let u : Bool = eqb (r .repliers % 2) 0 in
-      let v : Bool = ltb (r .repliers) (2 ^ (s .n + 1)) in
+      let u : Bool = repliersFit (s .n) (r .repliers) in
       let w : Bool = ltb (counted (r .repliers)) (majorityOf (s .n)) in
       let z : Bool = phaseFits s p (r .phase) (r .repliers) in
-      let e₇ : (a && b && c && d && u && v && w) ≡ true = and-left (a && b && c && d && u && v && w) z e in
-      let e₆ : (a && b && c && d && u && v) ≡ true = and-left (a && b && c && d && u && v) w e₇ in
-      let e₅ : (a && b && c && d && u) ≡ true = and-left (a && b && c && d && u) v e₆ in
+      let e₆ : (a && b && c && d && u && w) ≡ true = and-left (a && b && c && d && u && w) z e in
+      let e₅ : (a && b && c && d && u) ≡ true = and-left (a && b && c && d && u) w e₆ in
       let e₄ : (a && b && c && d) ≡ true = and-left (a && b && c && d) u e₅ in
       let e₃ : (a && b && c) ≡ true = and-left (a && b && c) d e₄ in
       let e₂ : (a && b) ≡ true = and-left (a && b) c e₃ in
@@ -178,19 +176,16 @@ module _ (s : State) (p : ℕ) (r : Replica) where
         rid = leb-true _ _ (and-right a b e₂);
         sixteen = eqb-true _ _ (and-right (a && b) c e₃);
         pairs = and-right (a && b && c) d e₄;
-        inside = (
-          eqb-true _ _ (and-right (a && b && c && d) u e₅),
-          ltb-true _ _ (and-right (a && b && c && d && u) v e₆),
-        );
-        few = ltb-true _ _ (and-right (a && b && c && d && u && v) w e₇);
-        phase = phase-ok s p (r .phase) (r .repliers) (and-right (a && b && c && d && u && v && w) z e);
+        inside = fit-inside (s .n) (r .repliers) (and-right (a && b && c && d) u e₅);
+        few = ltb-true _ _ (and-right (a && b && c && d && u) w e₆);
+        phase = phase-ok s p (r .phase) (r .repliers) (and-right (a && b && c && d && u && w) z e);
       }
 
   ok-replica : ReplicaOk s p r → replicaFits s p r ≡ true
   ok-replica k =
-      both (both (both (both (both (both (both
+      both (both (both (both (both (both
       (le-leb _ _ (k .clock)) (le-leb _ _ (k .rid))) (eq-eqb _ _ (k .sixteen))) (k .pairs))
-      (eq-eqb _ _ (k .inside .0))) (lt-ltb _ _ (k .inside .1))) (lt-ltb _ _ (k .few)))
+      (inside-fit (s .n) (r .repliers) (k .inside))) (lt-ltb _ _ (k .few)))
       (ok-phase s p (r .phase) (r .repliers) (k .phase))
 
 -- ---- all replicas, by the number of their process

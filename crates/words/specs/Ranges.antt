@@ -1,5 +1,5 @@
--- Document 01's ranges, of one number, stamp, pair or envelope.
-use Prim.Native.Nat.{ℕ, zero, suc, _%_}
+-- Document 01's ranges, of one number, stamp, pair, envelope or replier set.
+use Prim.Native.Nat.{ℕ, zero, suc, _+_, _%_, _^_}
 use mathlib.Core.Bool.{Bool, true, false, not, _&&_, _||_, Bool·beq}
 use lib.Dec.{leb, ltb, eqb}
 use lib.IntN.{ℤ, pos, negsuc}
@@ -25,6 +25,10 @@ stampFits limit n s = leb (s .time .0) limit && Bool·beq (eqb (s .time .0) 0) (
 abbrev pub pairFits : ℕ → ℕ → Pair → Bool
 pairFits limit n p = stampFits limit n (p .stamp) && (not (eqb (p .stamp .time .0) 0) || isZero (p .value))
 
--- the envelope of a message that was received
-abbrev pub senderFits : Pid → Time → Rid → Bool
-senderFits from time rid = within (from .0) 7 && leb (time .0) 12000 && leb (rid .0) 24000
+-- the envelope of a message that was received, from one of n processes
+abbrev pub senderFits : ℕ → Pid → Time → Rid → Bool
+senderFits n from time rid = within (from .0) n && leb (time .0) 12000 && leb (rid .0) 24000
+
+-- a replier set inside 1..n: bit 0 is no process, and no bit above n is set
+abbrev pub repliersFit : ℕ → ℕ → Bool
+repliersFit n repliers = eqb (repliers % 2) 0 && ltb repliers (2 ^ (n + 1))

@@ -1,6 +1,8 @@
-// Document 01's ranges, of one number, stamp, pair or envelope.
+// Document 01's ranges, of one number, stamp, pair, envelope or replier set.
 ghost use mathlib.Core.Path.{_≡_};
-ghost use Rattle.words.specs.Ranges.{within, isZero, stampFits, pairFits, senderFits};
+ghost use Prim.Native.Nat.{_+_, _^_};
+ghost use lib.Dec.{ltb};
+ghost use Rattle.words.specs.Ranges.{within, isZero, stampFits, pairFits, senderFits, repliersFit};
 use crate::Pair;
 use crate::Pid;
 use crate::Rid;
@@ -54,9 +56,27 @@ pub fn pair_fits(p: Pair, limit: u16, n: u8) -> bool
     stamp_fits(stamp, limit, n) & ((time != 0) | is_zero(p.value))
 }
 
-// The envelope of a message that was received.
-pub fn sender_fits(from: Pid, time: Time, rid: Rid) -> bool
-    ensures { λ r. ⌜ r ≡ senderFits from time rid ⌝ }
+// The envelope of a message that was received, from one of `n` processes.
+pub fn sender_fits(n: u8, from: Pid, time: Time, rid: Rid) -> bool
+    ensures { λ r. ⌜ r ≡ senderFits n from time rid ⌝ }
 {
-    is_within(from.0, PROCESSES) & (time.0 <= EVENTS) & (rid.0 <= REQUESTS)
+    is_within(from.0, n) & (time.0 <= EVENTS) & (rid.0 <= REQUESTS)
+}
+
+// No bit above `n` is set.
+fn none_above(n: u8, repliers: u8) -> bool
+    ensures { λ r. ⌜ r ≡ ltb repliers (2 ^ (n + 1)) ⌝ }
+{
+    if n < PROCESSES {
+        repliers < (1u8 << (n + 1))
+    } else {
+        true
+    }
+}
+
+// A replier set inside 1 to `n`: bit 0 is no process, and no bit above `n` is set.
+pub fn repliers_fit(n: u8, repliers: u8) -> bool
+    ensures { λ r. ⌜ r ≡ repliersFit n repliers ⌝ }
+{
+    (repliers % 2 == 0) & none_above(n, repliers)
 }

@@ -16,8 +16,8 @@ mul-result c = search needs
 stored-fit-requires : tie.Need-stored-fit-requires
 stored-fit-requires c κs = search needs
 
-is-below-requires : tie.Need-is-below-requires
-is-below-requires c κs = search needs
+repliers-fit-requires : tie.Need-repliers-fit-requires
+repliers-fit-requires c κs = search needs
 
 size-requires : tie.Need-size-requires
 size-requires c κs = search needs
@@ -32,7 +32,7 @@ phase-fits-requires : tie.Need-phase-fits-requires
 phase-fits-requires c κs = search needs
 
 returns : tie.Need-returns
-returns c = rw (c .phase-fits .ensures, c .before .majority .ensures, c .before .before .size .ensures, c .before .before .before .is-below .ensures, c .before .before .before .before .stored-fit .ensures)
+returns c = rw (c .phase-fits .ensures, c .before .majority .ensures, c .before .before .size .ensures, c .before .before .before .repliers-fit .ensures, c .before .before .before .before .stored-fit .ensures)
 
 pub replica-fits-spec : {M : Type 1} → statement M
 replica-fits-spec =
@@ -42,7 +42,7 @@ replica-fits-spec =
     cast-result-2
     mul-result
     stored-fit-requires
-    is-below-requires
+    repliers-fit-requires
     size-requires
     majority-requires
     cast-result-3

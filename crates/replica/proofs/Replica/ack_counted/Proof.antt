@@ -18,8 +18,8 @@ with-requires c κs = search needs
 is-majority-requires : tie.Need-is-majority-requires
 is-majority-requires c κs = search needs
 
-add-t14 : tie.Need-add-t14
-add-t14 c = search needs
+add-t13 : tie.Need-add-t13
+add-t13 c = search needs
 
 move-to-requires : tie.Need-move-to-requires
 move-to-requires c κs = search needs
@@ -51,7 +51,7 @@ ack-counted-spec =
     after-receiving-requires
     with-requires
     is-majority-requires
-    add-t14
+    add-t13
     move-to-requires
     move-to-requires-2
     accept-requires

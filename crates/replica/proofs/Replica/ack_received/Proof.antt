@@ -39,8 +39,8 @@ returns-2 c =
 ack-counted-requires : tie.Need-ack-counted-requires
 ack-counted-requires c κs =
     let a = c .before .before .before .before .before .before .before .args in
-    let i = ack-inside (a .self) (a .n) (a .from) (a .time) (a .rid) (sym (c .before .before .before .before .before .before .ack-refusal .ensures) ∙ c .before .before .before .before .before .if1 .left) in
-    (fits-clock (a .self) (i .0), sender-time (a .from) (a .time) (a .rid) (i .1), fits-rid (a .self) (i .0))
+    let i = ack-inside (a .self) (a .n) (a .from) (a .time) (a .rid) (c .before .before .before .before .before .before .ack-refusal .ensures) (c .before .before .before .before .before .if1 .left) in
+    (fits-clock (a .n) (a .self) (i .0), sender-time (a .n) (a .from) (a .time) (a .rid) (i .1), fits-rid (a .n) (a .self) (i .0))
 
 returns-3 : tie.Need-returns-3
 unfolding ackReceived ackRule

@@ -21,12 +21,12 @@ returns c = c .refuse .ensures ∙ refuse-by _ _ _ _ (c .before .before .read-re
 add-t9 : tie.Need-add-t9
 add-t9 c =
     let r = c .before .before .before .args .self in
-    omega (arith, fits-clock r (read-inside r _ _ (sym (c .before .before .read-refusal .ensures) ∙ c .before .if1 .left)))
+    omega (arith, fits-clock 7 r (read-inside r _ _ (c .before .before .read-refusal .ensures) (c .before .if1 .left)))
 
 add-t9-2 : tie.Need-add-t9-2
 add-t9-2 c =
     let r = c .before .before .before .before .args .self in
-    omega (arith, fits-rid r (read-inside r _ _ (sym (c .before .before .before .read-refusal .ensures) ∙ c .before .before .if1 .left)))
+    omega (arith, fits-rid 7 r (read-inside r _ _ (c .before .before .before .read-refusal .ensures) (c .before .before .if1 .left)))
 
 start-pair-requires : tie.Need-start-pair-requires
 start-pair-requires c κs = search needs

@@ -23,12 +23,12 @@ returns c = c .refuse .ensures ∙ refuse-by _ _ _ _ (c .before .before .write-r
 add-t11 : tie.Need-add-t11
 add-t11 c =
     let r = c .before .before .before .args .self in
-    omega (arith, fits-clock r (write-inside r _ _ _ (sym (c .before .before .write-refusal .ensures) ∙ c .before .if1 .left)))
+    omega (arith, fits-clock 7 r (write-inside r _ _ _ (c .before .before .write-refusal .ensures) (c .before .if1 .left)))
 
 add-t11-2 : tie.Need-add-t11-2
 add-t11-2 c =
     let r = c .before .before .before .before .args .self in
-    omega (arith, fits-rid r (write-inside r _ _ _ (sym (c .before .before .before .write-refusal .ensures) ∙ c .before .before .if1 .left)))
+    omega (arith, fits-rid 7 r (write-inside r _ _ _ (c .before .before .before .write-refusal .ensures) (c .before .before .if1 .left)))
 
 move-to-requires : tie.Need-move-to-requires
 move-to-requires c κs = search needs

@@ -22,14 +22,14 @@ returns c = c .refuse .ensures ∙ refuse-by _ _ _ _ (c .before .before .query-r
 pair-of-requires : tie.Need-pair-of-requires
 pair-of-requires c κs =
     let a = c .before .before .args in
-    let i = query-inside (a .self) (a .from) (a .time) (a .rid) (a .register) (sym (c .before .query-refusal .ensures) ∙ c .if1 .left) in
+    let i = query-inside (a .self) (a .from) (a .time) (a .rid) (a .register) (c .before .query-refusal .ensures) (c .if1 .left) in
     (within-least _ 16 (i .2), within-most _ 16 (i .2))
 
 after-receiving-requires : tie.Need-after-receiving-requires
 after-receiving-requires c κs =
     let a = c .before .before .before .args in
-    let i = query-inside (a .self) (a .from) (a .time) (a .rid) (a .register) (sym (c .before .before .query-refusal .ensures) ∙ c .before .if1 .left) in
-    omega (arith, fits-clock (a .self) (i .0), sender-time (a .from) (a .time) (a .rid) (i .1))
+    let i = query-inside (a .self) (a .from) (a .time) (a .rid) (a .register) (c .before .before .query-refusal .ensures) (c .before .if1 .left) in
+    omega (arith, fits-clock 7 (a .self) (i .0), sender-time 7 (a .from) (a .time) (a .rid) (i .1))
 
 reply-requires : tie.Need-reply-requires
 reply-requires c κs = search needs

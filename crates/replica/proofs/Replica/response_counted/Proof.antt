@@ -18,8 +18,8 @@ with-requires c κs = search needs
 is-majority-requires : tie.Need-is-majority-requires
 is-majority-requires c κs = search needs
 
-add-t15 : tie.Need-add-t15
-add-t15 c = search needs
+add-t14 : tie.Need-add-t14
+add-t14 c = search needs
 
 move-to-requires : tie.Need-move-to-requires
 move-to-requires c κs = search needs
@@ -57,7 +57,7 @@ response-counted-spec =
     after-receiving-requires
     with-requires
     is-majority-requires
-    add-t15
+    add-t14
     move-to-requires
     broadcast-requires
     accept-requires

@@ -42,8 +42,8 @@ newer-of-requires c κs = search needs
 response-counted-requires : tie.Need-response-counted-requires
 response-counted-requires c κs =
     let a = c .before .before .before .before .before .before .before .before .args in
-    let i = response-inside (a .self) (a .n) (a .register) (a .from) (a .time) (a .rid) (a .pair) (sym (c .before .before .before .before .before .before .before .response-refusal .ensures) ∙ c .before .before .before .before .before .before .if1 .left) in
-    (fits-clock (a .self) (i .0), sender-time (a .from) (a .time) (a .rid) (i .1), fits-rid (a .self) (i .0))
+    let i = response-inside (a .self) (a .n) (a .register) (a .from) (a .time) (a .rid) (a .pair) (c .before .before .before .before .before .before .before .response-refusal .ensures) (c .before .before .before .before .before .before .if1 .left) in
+    (fits-clock (a .n) (a .self) (i .0), sender-time (a .n) (a .from) (a .time) (a .rid) (i .1), fits-rid (a .n) (a .self) (i .0))
 
 returns-3 : tie.Need-returns-3
 unfolding responseReceived responseRule

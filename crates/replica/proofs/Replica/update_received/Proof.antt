@@ -22,13 +22,13 @@ returns c = c .refuse .ensures ∙ refuse-by _ _ _ _ (c .before .before .update-
 after-receiving-requires : tie.Need-after-receiving-requires
 after-receiving-requires c κs =
     let a = c .before .before .args in
-    let i = update-inside (a .self) (a .from) (a .time) (a .rid) (a .register) (a .pair) (sym (c .before .update-refusal .ensures) ∙ c .if1 .left) in
-    omega (arith, fits-clock (a .self) (i .0), sender-time (a .from) (a .time) (a .rid) (i .1))
+    let i = update-inside (a .self) (a .from) (a .time) (a .rid) (a .register) (a .pair) (c .before .update-refusal .ensures) (c .if1 .left) in
+    omega (arith, fits-clock 7 (a .self) (i .0), sender-time 7 (a .from) (a .time) (a .rid) (i .1))
 
 pair-of-requires : tie.Need-pair-of-requires
 pair-of-requires c κs =
     let a = c .before .before .before .args in
-    let i = update-inside (a .self) (a .from) (a .time) (a .rid) (a .register) (a .pair) (sym (c .before .before .update-refusal .ensures) ∙ c .before .if1 .left) in
+    let i = update-inside (a .self) (a .from) (a .time) (a .rid) (a .register) (a .pair) (c .before .before .update-refusal .ensures) (c .before .if1 .left) in
     (within-least _ 16 (i .2), within-most _ 16 (i .2))
 
 newer-of-requires : tie.Need-newer-of-requires
@@ -37,7 +37,7 @@ newer-of-requires c κs = search needs
 with-pair-requires : tie.Need-with-pair-requires
 with-pair-requires c κs =
     let a = c .before .before .before .before .before .args in
-    let i = update-inside (a .self) (a .from) (a .time) (a .rid) (a .register) (a .pair) (sym (c .before .before .before .before .update-refusal .ensures) ∙ c .before .before .before .if1 .left) in
+    let i = update-inside (a .self) (a .from) (a .time) (a .rid) (a .register) (a .pair) (c .before .before .before .before .update-refusal .ensures) (c .before .before .before .if1 .left) in
     (within-least _ 16 (i .2), within-most _ 16 (i .2))
 
 reply-requires : tie.Need-reply-requires

@@ -1,4 +1,4 @@
--- `judge::replicas::is_below` meets its contract. Up to process 6 the bit lies within the byte; from 7 on every byte is below.
+-- `words::ranges::none_above` meets its contract. Up to process 6 the bit lies within the byte; from 7 on every byte is below.
 use mathlib.Core.Path.{_≡_, ap, _∙_}
 use Prim.Native.Nat.{_+_}
 use native.Mathlib.Nat.{one-mul}
@@ -6,9 +6,9 @@ use native.Mathlib.Omega.{arith}
 use lib.Dec.{lit<, ltb}
 use lib.Pow.{shl-exact}
 use borrow.Author.Needs.{needs}
-use Rattle.judge.specs.StepLaws.{below-power}
-use Rattle.judge.proofs.replicas.is_below.Statement.{statement}
-use Rattle.judge.proofs.replicas.is_below.Tie as tie
+use Rattle.words.specs.RangeLaws.{below-power}
+use Rattle.words.proofs.ranges.none_above.Statement.{statement}
+use Rattle.words.proofs.ranges.none_above.Tie as tie
 
 add-result : tie.Need-add-result
 add-result c = search needs
@@ -24,5 +24,5 @@ returns c =
 returns-2 : tie.Need-returns-2
 returns-2 c = below-power (c .before .args .repliers) (c .before .args .n) (omega arith) (c .if1 .left)
 
-pub is-below-spec : {M : Type 1} → statement M
-is-below-spec = tie.close (tie.spec add-result shl-result returns returns-2)
+pub none-above-spec : {M : Type 1} → statement M
+none-above-spec = tie.close (tie.spec add-result shl-result returns returns-2)
