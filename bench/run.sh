@@ -63,7 +63,18 @@ compile_variant() {
     printf '#!/bin/sh\n"%s" "$@" || exit\ncase " $* " in *" -O3 "*) cp module.o "%s" ;; esac\n' "$tools/bin/clang" "$work/step.o" >"$work/toolchain/bin/clang"
     chmod +x "$work/toolchain/bin/clang"
 
-    needs="std $(sed -n 's/^repeat: *//p' crates.txt)"
+    # every library that `repeat` stands on, by way of others too, each behind those that it stands on itself
+    needs="std $(awk '
+        function visit(name,    k, count, words) {
+            if (name in seen) return
+            seen[name]
+            count = split(stands[name], words, " ")
+            for (k = 1; k <= count; k++) visit(words[k])
+            if (name != "repeat") print name
+        }
+        { sub(/#.*/, "") }
+        split($0, part, ":") == 2 { stands[part[1]] = part[2] }
+        END { visit("repeat") }' crates.txt)"
     for crate in $needs; do
         if [ -d "$work/$crate" ]; then words+=(--lib "$crate=$work/$crate/lib.rt")
         elif [ -d "target/rlib/$crate.rlib" ]; then words+=(--extern "$crate=target/rlib/$crate.rlib")

@@ -11,7 +11,6 @@ home={'Message':'words','Row':'tables','Found':'tables','Event':'state','Bench':
 FNS=[
  ('find','tables','ref',[('c','usize'),('j','u32')],['c ≤ length ys'],'Found','seek j 0 (take c ys)'),
  ('row_at','tables','ref',[('i','usize')],[],'Line','getD ys i emptyRow','Row'),
- ('gather.place_of','advance','plain',[('found','Found')],[],'usize','placeOf found'),
  ('gather.sought_of','advance','plain',[('found','Found'),('message','Message')],[],'Sought','soughtOf found message'),
  ('gather.wanted','advance','plain',[('event','Event')],[],'u32','wantedOf event'),
  ('gather.asked_of','advance','plain',[('bench','Bench'),('event','Event'),('s','Sought')],['length (bench .replicas) ≡ 7'],'Asked','askedOf bench event s'),
@@ -28,6 +27,7 @@ FNS=[
  ('plans.stepped_in','advance','plain',[('w','Work')],[],'Stepped','w .stepped'),
  ('gather.flight_of','advance','plain',[('bench','Bench')],[],'usize','bench .flight'),
  ('gather.row_place','advance','plain',[('a','Asked')],[],'usize','a .at'),
+ ('message_found','advance','ref',[('found','Found')],[],'Message','messageFound ys found'),
  ('seek_out','advance','ref',[('c','usize'),('j','u32')],['c ≤ length ys'],'Sought','soughtIn ys c j'),
  ('sought_for','advance','ref',[('bench','Bench'),('event','Event')],['bench .flight ≤ length ys'],'Sought','soughtIn ys (bench .flight) (wantedOf event)'),
  ('ask','advance','shared',[('bench','Bench'),('event','Event')],['bench .flight ≤ length ys','length (bench .replicas) ≡ 7'],'Asked','askedIn bench event ys'),
@@ -142,7 +142,7 @@ use denote.Triple.Statement.{Contract, Triple}
 use Rattle.tables.specs.Tables.{seek, emptyRow, copies, laidAt}
 use Rattle.state.specs.Tabled.{tabled}
 use Rattle.advance.specs.Advanced.{Advanced}
-use Rattle.advance.specs.Parts.{placeOf, soughtOf, soughtIn, wantedOf, askedOf, askedIn, knownOf, workOf, Bounded, droppedIf, Sound, carriedMessages, carriedRows}
+use Rattle.advance.specs.Parts.{messageFound, soughtOf, soughtIn, wantedOf, askedOf, askedIn, knownOf, workOf, Bounded, droppedIf, Sound, carriedMessages, carriedRows}
 use Rattle.tables.proofs.Calls.{calls-mut, calls-shared, calls-ref, calls-plain, calls-mut2, Mut, Shr}''')
 used=lambda s:any(s in b for b in body)
 for n,m in SH.items():

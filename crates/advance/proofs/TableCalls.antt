@@ -32,10 +32,12 @@ use denote.Triple.Statement.{Contract, Triple}
 use Rattle.tables.specs.Tables.{emptyRow, copies, laidAt}
 use Rattle.state.specs.Tabled.{tabled}
 use Rattle.advance.specs.Advanced.{Advanced}
-use Rattle.advance.specs.Parts.{soughtIn, wantedOf, askedIn, knownOf, workOf, Bounded, droppedIf, Sound, carriedMessages, carriedRows}
+use Rattle.advance.specs.Parts.{messageFound, soughtIn, wantedOf, askedIn, knownOf, workOf, Bounded, droppedIf, Sound, carriedMessages, carriedRows}
 use Rattle.tables.proofs.Calls.{calls-mut, calls-shared, calls-ref, calls-mut2, Mut, Shr}
 use Rattle.words.specs.declared.Message.{Message}
-use Rattle.tables.proofs.Messages.{R as R-Message}
+use Rattle.tables.proofs.Messages.{R as R-Message, val as val-Message, vals as vals-Message, tells as tells-Message}
+use Rattle.tables.specs.declared.Found.{Found}
+use Rattle.advance.proofs.Founds.{R as R-Found, val as val-Found, vals as vals-Found, makes as makes-Found}
 use Rattle.tables.specs.declared.Row.{Row}
 use Rattle.tables.proofs.Rows.{R as R-Row}
 use Rattle.state.specs.declared.Event.{Event}
@@ -52,6 +54,8 @@ use Rattle.advance.specs.declared.Known.{Known}
 use Rattle.advance.proofs.Knowns.{R as R-Known, val as val-Known, vals as vals-Known, tells as tells-Known, makes as makes-Known}
 use Rattle.advance.specs.declared.Work.{Work}
 use Rattle.advance.proofs.Works.{R as R-Work, val as val-Work, vals as vals-Work, makes as makes-Work}
+use Rattle.advance.proofs.message_found as message-found
+use Rattle.advance.proofs.message_found.Symbol.{name as #advance·message-found}
 use Rattle.advance.proofs.seek_out as seek-out
 use Rattle.advance.proofs.seek_out.Symbol.{name as #advance·seek-out}
 use Rattle.advance.proofs.sought_for as sought-for
@@ -76,6 +80,9 @@ use Rattle.advance.proofs.conclude as conclude
 use Rattle.advance.proofs.conclude.Symbol.{name as #advance·conclude}
 
 module _ {M : Type 1} (𝓤 : URA M) (H : Heap 𝓤) (A : Atoms 𝓤) (mem : Memory → SProp 𝓤) (run : Routine → Fun 𝓤) where
+  abbrev pub MessageFounds : Contract 𝓤
+  MessageFounds = tripleOf 𝓤 H A message-found.signature (message-found.spec 𝓤 H A mem run)
+
   abbrev pub SeekOuts : Contract 𝓤
   SeekOuts = tripleOf 𝓤 H A seek-out.signature (seek-out.spec 𝓤 H A mem run)
 
@@ -110,6 +117,19 @@ module _ {M : Type 1} (𝓤 : URA M) (H : Heap 𝓤) (A : Atoms 𝓤) (mem : Mem
   Concludes = tripleOf 𝓤 H A conclude.signature (conclude.spec 𝓤 H A mem run)
 
 module _ {M : Type 1} {𝓤 : URA M} {H : Heap 𝓤} {A : Atoms 𝓤} {K : Type 0} {W : Given 𝓤 H A} {Γ : List (Item 𝓤)} {E : Env 𝓤 H} {C : Calls 𝓤 H} {Λ : Loops 𝓤 H} {p : Post 𝓤 H} {xs : List Operand} {d : Place} {rest : Body} where
+  -- ---- `message_found`
+  pub calls-message-found : K → FmC 𝓤 H (W .laws) C → (mem : Memory → SProp 𝓤) (run : Routine → Fun 𝓤) → Triple 𝓤 (C #advance·message-found) (MessageFounds 𝓤 H A mem run) → {κ : Lft} {q : Share} {γ : GName} (b o n : ℕ) (ys : List Message) (found : Found) → Is R-Found found (vals-Found found)
+      → ((P : SProp 𝓤) (L : Fml) → Opds K W (raw P ∷ ‵ L ∷ Γ) E xs (sliceVal (b, o) n ∷ val-Found found ∷ []))
+      → ((r : Message) → Is R-Message r (vals-Message r) → r ≡ messageFound ys found → Seq K W (‵ (Shr R-Message κ b o n γ ys) ∷ ‵ (flft κ q) ∷ Γ) (lands C Λ E d (val-Message r) rest p))
+      → Seq K W (‵ (Shr R-Message κ b o n γ ys) ∷ ‵ (flft κ q) ∷ Γ) (runs C Λ E (seq (call #advance·message-found xs d) rest) p)
+  calls-message-found t fm mem run known {κ} {q} {γ} b o n ys found gfound os k =
+      calls-ref t fm R-Message (plain (λ _. R-Found) ∷ []) R-Message (yes, tt) (message-found.clauses 𝓤 H A mem run) known b o n ys
+      (found, tt) (vals-Found found, tt)
+      (owns-make 𝓤 H A (R-Found ∷ []) (Ises (R-Found ∷ [])) (makes-Found 𝓤 H A, tt) (found, tt) (vals-Found found, tt) (gfound, tt))
+      tt (id⊢ 𝓤 _)
+      (λ r. r ≡ messageFound ys found) (λ r ws. id⊢ 𝓤 _) os
+      (λ v r is φ. subst (λ (u : Val). Seq K W (‵ (Shr R-Message κ b o n γ ys) ∷ ‵ (flft κ q) ∷ Γ) (lands C Λ E d u rest p)) (sym (ap only (tells-Message r (v ∷ []) is))) (k r (subst (Is R-Message r) (tells-Message r (v ∷ []) is) is) φ))
+
   -- ---- `seek_out`
   pub calls-seek-out : K → FmC 𝓤 H (W .laws) C → (mem : Memory → SProp 𝓤) (run : Routine → Fun 𝓤) → Triple 𝓤 (C #advance·seek-out) (SeekOuts 𝓤 H A mem run) → {κ : Lft} {q : Share} {γ : GName} (b o n : ℕ) (ys : List Message) (c : ℕ) (j : ℕ) → c < 2 ^ 64 → j < 2 ^ 32 → c ≤ length ys
       → ((P : SProp 𝓤) (L : Fml) → Opds K W (raw P ∷ ‵ L ∷ Γ) E xs (sliceVal (b, o) n ∷ vint w64 c ∷ vint w32 j ∷ []))

@@ -30,7 +30,7 @@ use denote.Steps.{only}
 use denote.Triple.Spec.{tripleOf}
 use denote.Triple.Statement.{Contract, Triple}
 use Rattle.tables.specs.Tables.{seek, emptyRow}
-use Rattle.advance.specs.Parts.{placeOf, soughtOf, wantedOf, askedOf, knownOf, workOf, Bounded}
+use Rattle.advance.specs.Parts.{soughtOf, wantedOf, askedOf, knownOf, workOf, Bounded}
 use Rattle.tables.proofs.Calls.{calls-ref, calls-plain, Shr}
 use Rattle.advance.proofs.Line.{R as R-Line, val as val-Line, vals as vals-Line, tells as tells-Line, makes as makes-Line}
 use Rattle.words.specs.declared.Message.{Message}
@@ -57,8 +57,6 @@ use Rattle.tables.proofs.find as find
 use Rattle.tables.proofs.find.Symbol.{name as #tables·find}
 use Rattle.tables.proofs.row_at as row-at
 use Rattle.tables.proofs.row_at.Symbol.{name as #tables·row-at}
-use Rattle.advance.proofs.gather.place_of as place-of
-use Rattle.advance.proofs.gather.place_of.Symbol.{name as #advance·place-of}
 use Rattle.advance.proofs.gather.sought_of as sought-of
 use Rattle.advance.proofs.gather.sought_of.Symbol.{name as #advance·sought-of}
 use Rattle.advance.proofs.gather.wanted as wanted
@@ -98,9 +96,6 @@ module _ {M : Type 1} (𝓤 : URA M) (H : Heap 𝓤) (A : Atoms 𝓤) (mem : Mem
 
   abbrev pub RowAts : Contract 𝓤
   RowAts = tripleOf 𝓤 H A row-at.signature (row-at.spec 𝓤 H A mem run)
-
-  abbrev pub PlaceOfs : Contract 𝓤
-  PlaceOfs = tripleOf 𝓤 H A place-of.signature (place-of.spec 𝓤 H A mem run)
 
   abbrev pub SoughtOfs : Contract 𝓤
   SoughtOfs = tripleOf 𝓤 H A sought-of.signature (sought-of.spec 𝓤 H A mem run)
@@ -176,19 +171,6 @@ module _ {M : Type 1} {𝓤 : URA M} {H : Heap 𝓤} {A : Atoms 𝓤} {K : Type 
       tt (id⊢ 𝓤 _)
       (λ r. r ≡ getD ys i emptyRow) (λ r ws. id⊢ 𝓤 _) os
       (λ v r is φ. subst (λ (u : Val). Seq K W (‵ (Shr R-Row κ b o n γ ys) ∷ ‵ (flft κ q) ∷ Γ) (lands C Λ E d u rest p)) (sym (ap only (tells-Line r (v ∷ []) is))) (k r (subst (Is R-Line r) (tells-Line r (v ∷ []) is) is) φ))
-
-  -- ---- `place_of`
-  pub calls-place-of : K → FmC 𝓤 H (W .laws) C → (mem : Memory → SProp 𝓤) (run : Routine → Fun 𝓤) → Triple 𝓤 (C #advance·place-of) (PlaceOfs 𝓤 H A mem run) → (found : Found) → Is R-Found found (vals-Found found)
-      → ((P : SProp 𝓤) → Opds K W (raw P ∷ Γ) E xs (val-Found found ∷ []))
-      → ((r : ℕ) → r < 2 ^ 64 → r ≡ placeOf found → Seq K W Γ (lands C Λ E d (vint w64 r) rest p))
-      → Seq K W Γ (runs C Λ E (seq (call #advance·place-of xs d) rest) p)
-  calls-place-of t fm mem run known found gfound os k =
-      calls-plain t fm (plain (λ _. R-Found) ∷ []) usize (yes, tt) (place-of.clauses 𝓤 H A mem run) known
-      (found, tt) (vals-Found found, tt)
-      (owns-make 𝓤 H A (R-Found ∷ []) (Ises (R-Found ∷ [])) (makes-Found 𝓤 H A, tt) (found, tt) (vals-Found found, tt) (gfound, tt))
-      tt (id⊢ 𝓤 _)
-      (λ r. r ≡ placeOf found) (λ r ws. id⊢ 𝓤 _) os
-      (λ v r is φ. subst (λ (u : Val). Seq K W Γ (lands C Λ E d u rest p)) (sym (ap only (is .0))) (k r (is .1) φ))
 
   -- ---- `sought_of`
   pub calls-sought-of : K → FmC 𝓤 H (W .laws) C → (mem : Memory → SProp 𝓤) (run : Routine → Fun 𝓤) → Triple 𝓤 (C #advance·sought-of) (SoughtOfs 𝓤 H A mem run) → (found : Found) (message : Message) → Is R-Found found (vals-Found found) → Is R-Message message (vals-Message message)

@@ -37,17 +37,17 @@ wantedOf (Deliver k) = k
 wantedOf (Crash p) = 0
 wantedOf (Lose k) = k
 
--- past the end where it is missing
-abbrev pub placeOf : Found → ℕ
-placeOf (At i) = i
-placeOf Missing = 512
+-- the message at the place that was found, the empty one where none was
+unfoldable pub messageFound : List Message → Found → Message
+messageFound messages (At i) = getD messages i emptyMessage
+messageFound messages Missing = emptyMessage
 
 abbrev pub soughtOf : Found → Message → Sought
 soughtOf found message = record { found = found; message = message }
 
 -- the message with the number k among the first n, and its place
 abbrev pub soughtIn : List Message → ℕ → ℕ → Sought
-soughtIn messages n k = soughtOf (seek k 0 (take n messages)) (getD messages (placeOf (seek k 0 (take n messages))) emptyMessage)
+soughtIn messages n k = soughtOf (seek k 0 (take n messages)) (messageFound messages (seek k 0 (take n messages)))
 
 -- the process that takes a step: the event's, or the message's recipient
 abbrev pub processOf : Event → Message → ℕ
@@ -140,12 +140,12 @@ movedBench b t p from plan =
 abbrev pub finished : Bench → Tally → ℕ → ℕ → Plan → Stepped
 finished b t p from plan = record { refusal = plan .refusal; bench = cond (eqb (plan .refusal) 0) (movedBench b t p from plan) b }
 
-unfoldable pub workBy : Bench → Tally → ℕ → ℕ → Plan → Work
-workBy b t p at plan =
+unfoldable pub workBy : Bench → Tally → ℕ → Plan → Work
+workBy b t p plan =
     let cut = t .takes && eqb (plan .refusal) 0 in
     record {
       cut = cut;
-      at = at;
+      at = plan .at;
       flight = b .flight;
       from = fromOf cut (b .flight);
       count = plan .count;
@@ -158,7 +158,7 @@ workBy b t p at plan =
 unfoldable pub workOf : Bench → Event → Known → Work
 workOf b event k =
     let w = whoseOf b event (k .message) in
-    workBy b (tallyOf event) (w .p) (placeOf (k .found)) (planOf (countersOf b) event (k .found) (k .message) (w .down) (w .r) (k .row))
+    workBy b (tallyOf event) (w .p) (planOf (countersOf b) event (k .found) (k .message) (w .down) (w .r) (k .row))
 
 -- ---- the tables, once it is carried out
 

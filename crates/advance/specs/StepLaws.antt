@@ -37,13 +37,13 @@ use Rattle.state.specs.Step.{step, stepRead, stepWrite, stepDeliver, stepCrash,
 use Rattle.state.specs.Tabled.{benchOf}
 use Rattle.state.specs.Accepted.{passed}
 use Rattle.state.specs.Sized.{answered-length}
-use Rattle.decide.specs.Plan.{refusedPlan, acceptedPlan, settled, numberBy, rowBy, askedOf, answerBy, answerTo, planOf, readPlan, writePlan, deliverPlan, crashPlan, losePlan}
+use Rattle.decide.specs.Plan.{quietPlan, refusedPlan, acceptedPlan, settled, numberBy, rowBy, askedOf, answerBy, answerTo, planOf, readPlan, writePlan, deliverPlan, crashPlan, losePlan}
 use Rattle.advance.specs.declared.Known.{Known}
 use Rattle.advance.specs.declared.Tally.{Tally}
 use Rattle.advance.specs.Answers.{read-begun, write-begun, crash-silent, answer-right, Waited}
 use Rattle.advance.specs.Good.{Good, Points}
 use Rattle.advance.specs.ListLaws.{laid, laid-set, laid-next, getD-laid}
-use Rattle.advance.specs.Parts.{wantedOf, placeOf, processOf, countersOf, writtenAt, whoseOf, askedOf as askedFor, askedIn, knownOf, workBy, workOf, wholeWork}
+use Rattle.advance.specs.Parts.{wantedOf, messageFound, processOf, countersOf, writtenAt, whoseOf, askedOf as askedFor, askedIn, knownOf, workBy, workOf, wholeWork}
 use Rattle.advance.specs.Steps.{Done, by-number, refusal-done, kept-done, taken-done, lost-done, written, past-rows, Mild}
 
 invoke-room : (s : State) (p x later : ℕ) → invokeRefusal s p x later ≡ 0 → (length (s .rows) < 1024) × (length (s .flight) + s .n ≤ 512)
@@ -70,8 +70,8 @@ abbrev gathered : State → Event → Found → Known
 gathered s event f =
     record {
       found = f;
-      message = getD (s .flight) (placeOf f) emptyMessage;
-      row = getD (s .rows) (pointed (replicaOf s (processOf event (getD (s .flight) (placeOf f) emptyMessage)) .phase) - 1) emptyRow;
+      message = messageFound (s .flight) f;
+      row = getD (s .rows) (pointed (replicaOf s (processOf event (messageFound (s .flight) f)) .phase) - 1) emptyRow;
     }
 
 getD-again : {A : Type 0} (xs : List A) (i : ℕ) (d : A) → getD xs i d ≡ getD xs i (getD xs i d)
@@ -114,43 +114,43 @@ full-first : (s : State) (u : Bool) (number : ℕ) (next : State) → cond u (ou
 full-first s true number next = refl
 full-first s false number next = refl
 
-missing-done : (s : State) → Good s → (t : Tally) (p i : ℕ) (r : Replica) (u : Bool) → Done (workBy (benchOf s) t p i (refusedPlan (check u 17 12) r)) s (cond u (outcome s 17 s) (outcome s 12 s))
-missing-done s g t p i r true = refusal-done s g t p i 17 r refl
-missing-done s g t p i r false = refusal-done s g t p i 12 r refl
+missing-done : (s : State) → Good s → (t : Tally) (p : ℕ) (r : Replica) (u : Bool) → Done (workBy (benchOf s) t p (refusedPlan (check u 17 12) r)) s (cond u (outcome s 17 s) (outcome s 12 s))
+missing-done s g t p r true = refusal-done s g t p 0 17 r refl
+missing-done s g t p r false = refusal-done s g t p 0 12 r refl
 
 module _ (s : State) (g : Good s) where
-  begin-done : (p x i : ℕ) (answer : Answer) (row : Row) → Mild (answer .sends) → ((n : ℕ) → sentBy n (answer .sends) ≤ n)
-      → Done (workBy (benchOf s) (record { rows = 1; delivered = 0; lost = 0; takes = false }) p i (settled (invokeRefusal s p x (answer .refusal)) (replicaOf s p) (acceptedPlan (countersOf (benchOf s)) p answer (length (s .rows) + 1) row)))
+  begin-done : (p x : ℕ) (answer : Answer) (row : Row) → Mild (answer .sends) → ((n : ℕ) → sentBy n (answer .sends) ≤ n)
+      → Done (workBy (benchOf s) (record { rows = 1; delivered = 0; lost = 0; takes = false }) p (settled (invokeRefusal s p x (answer .refusal)) (replicaOf s p) (acceptedPlan (countersOf (benchOf s)) p 0 answer (length (s .rows) + 1) row)))
       s (outcome s (invokeRefusal s p x (answer .refusal)) (moved s p answer (s .flight) (s .delivered) (s .rows ++ (row ∷ []))))
-  begin-done p x i answer row mild most =
-      by-number s g (record { rows = 1; delivered = 0; lost = 0; takes = false }) p i (invokeRefusal s p x (answer .refusal)) (replicaOf s p)
-      (acceptedPlan (countersOf (benchOf s)) p answer (length (s .rows) + 1) row) (moved s p answer (s .flight) (s .delivered) (s .rows ++ (row ∷ [])))
-      (λ z. kept-done s g 1 p i answer (length (s .rows) + 1) row (s .rows ++ (row ∷ [])) mild (omega (arith, invoke-room s p x (answer .refusal) z .1, most (s .n)))
+  begin-done p x answer row mild most =
+      by-number s g (record { rows = 1; delivered = 0; lost = 0; takes = false }) p (invokeRefusal s p x (answer .refusal)) (replicaOf s p)
+      (acceptedPlan (countersOf (benchOf s)) p 0 answer (length (s .rows) + 1) row) (moved s p answer (s .flight) (s .delivered) (s .rows ++ (row ∷ [])))
+      (λ z. kept-done s g 1 p answer (length (s .rows) + 1) row (s .rows ++ (row ∷ [])) mild (omega (arith, invoke-room s p x (answer .refusal) z .1, most (s .n)))
       (next-row s row (invoke-room s p x (answer .refusal) z .0)) (length-append (s .rows) (row ∷ [])))
 
   pub read-done : (p : Pid) (x : ℕ) (k : Known) → Done (workOf (benchOf s) (Read p x) k) s (step s (Read p x))
   unfolding workOf whoseOf planOf readPlan step stepRead
   read-done p x k =
-      begin-done (p .0) x (placeOf (k .found)) (readBegun (replicaOf s (p .0)) x (length (s .rows) + 1)) (readRow (p .0) x (readBegun (replicaOf s (p .0)) x (length (s .rows) + 1) .replica .clock .0))
+      begin-done (p .0) x (readBegun (replicaOf s (p .0)) x (length (s .rows) + 1)) (readRow (p .0) x (readBegun (replicaOf s (p .0)) x (length (s .rows) + 1) .replica .clock .0))
       (read-begun (replicaOf s (p .0)) x (length (s .rows) + 1) .0) (read-begun (replicaOf s (p .0)) x (length (s .rows) + 1) .1)
 
   pub write-done : (p : Pid) (x : ℕ) (value : ℤ) (k : Known) → Done (workOf (benchOf s) (Write p x value) k) s (step s (Write p x value))
   unfolding workOf whoseOf planOf writePlan step stepWrite
   write-done p x value k =
-      begin-done (p .0) x (placeOf (k .found)) (writeBegun (replicaOf s (p .0)) (record { 0 = p .0 }) x value (length (s .rows) + 1))
+      begin-done (p .0) x (writeBegun (replicaOf s (p .0)) (record { 0 = p .0 }) x value (length (s .rows) + 1))
       (writeRow (p .0) x value (writeBegun (replicaOf s (p .0)) (record { 0 = p .0 }) x value (length (s .rows) + 1) .replica .clock .0))
       (write-begun (replicaOf s (p .0)) (record { 0 = p .0 }) x value (length (s .rows) + 1) .0) (write-begun (replicaOf s (p .0)) (record { 0 = p .0 }) x value (length (s .rows) + 1) .1)
 
-  silent-done : (p i number : ℕ) (r : Replica) (answer : Answer) → answer .sends ≡ Nothing
-      → Done (workBy (benchOf s) (record { rows = 0; delivered = 0; lost = 0; takes = false }) p i (settled number r (acceptedPlan (countersOf (benchOf s)) p answer 0 emptyRow)))
+  silent-done : (p number : ℕ) (r : Replica) (answer : Answer) → answer .sends ≡ Nothing
+      → Done (workBy (benchOf s) (record { rows = 0; delivered = 0; lost = 0; takes = false }) p (settled number r (acceptedPlan (countersOf (benchOf s)) p 0 answer 0 emptyRow)))
       s (outcome s number (moved s p answer (s .flight) (s .delivered) (s .rows)))
-  silent-done p i number r answer silent =
-      by-number s g (record { rows = 0; delivered = 0; lost = 0; takes = false }) p i number r (acceptedPlan (countersOf (benchOf s)) p answer 0 emptyRow) (moved s p answer (s .flight) (s .delivered) (s .rows))
-      (λ z. kept-done s g 0 p i answer 0 emptyRow (s .rows) (subst Mild (sym silent) tt) (subst (λ (sends : Sends). length (s .flight) + sentBy (s .n) sends ≤ 512) (sym silent) (omega (arith, g .flight))) (past-rows s g emptyRow) (omega arith))
+  silent-done p number r answer silent =
+      by-number s g (record { rows = 0; delivered = 0; lost = 0; takes = false }) p number r (acceptedPlan (countersOf (benchOf s)) p 0 answer 0 emptyRow) (moved s p answer (s .flight) (s .delivered) (s .rows))
+      (λ z. kept-done s g 0 p answer 0 emptyRow (s .rows) (subst Mild (sym silent) tt) (subst (λ (sends : Sends). length (s .flight) + sentBy (s .n) sends ≤ 512) (sym silent) (omega (arith, g .flight))) (past-rows s g emptyRow) (omega arith))
 
   pub crash-done : (p : Pid) (k : Known) → Done (workOf (benchOf s) (Crash p) k) s (step s (Crash p))
   unfolding workOf whoseOf planOf crashPlan step stepCrash
-  crash-done p k = silent-done (p .0) (placeOf (k .found)) (crashRefusal s (p .0) (crashed (replicaOf s (p .0)) .refusal)) (replicaOf s (p .0)) (crashed (replicaOf s (p .0))) (crash-silent (replicaOf s (p .0)))
+  crash-done p k = silent-done (p .0) (crashRefusal s (p .0) (crashed (replicaOf s (p .0)) .refusal)) (replicaOf s (p .0)) (crashed (replicaOf s (p .0))) (crash-silent (replicaOf s (p .0)))
 
   found-within : (k i : ℕ) → Place i ≡ seek k 0 (s .flight) → i < length (s .flight)
   found-within k i e = seek-at k (length (s .flight)) i (s .flight) (e ∙ sym (ap (seek k 0) (take-length (s .flight)))) .0
@@ -163,20 +163,20 @@ module _ (s : State) (g : Good s) where
       ltb-false 512 (length (s .flight) - 1 + sentBy (s .n) (answer .sends)) c
 
   receive-done : (p i : ℕ) → i < length (s .flight) → (r : Replica) (answer : Answer) → Mild (answer .sends) → Waited (answer .ended) (r .phase) → Points (s .rows) (r .phase)
-      → Done (workBy (benchOf s) (record { rows = 0; delivered = 1; lost = 0; takes = true }) p i
-      (settled (check (full s) 17 (deliverRefusal s r answer)) r (acceptedPlan (countersOf (benchOf s)) p answer (numberBy (answer .ended) (pointed (r .phase))) (rowBy (answer .ended) (getD (s .rows) (pointed (r .phase) - 1) emptyRow)))))
+      → Done (workBy (benchOf s) (record { rows = 0; delivered = 1; lost = 0; takes = true }) p
+      (settled (check (full s) 17 (deliverRefusal s r answer)) r (acceptedPlan (countersOf (benchOf s)) p i answer (numberBy (answer .ended) (pointed (r .phase))) (rowBy (answer .ended) (getD (s .rows) (pointed (r .phase) - 1) emptyRow)))))
       s (cond (full s) (outcome s 17 s) (outcome s (deliverRefusal s r answer) (moved s p answer (removed i (s .flight)) (s .delivered + 1) (answeredRows (s .rows) (pointed (r .phase)) (answer .ended)))))
   receive-done p i l r answer mild waited points =
       subst (Done _ s) (sym (full-first s (full s) (deliverRefusal s r answer) (moved s p answer (removed i (s .flight)) (s .delivered + 1) (answeredRows (s .rows) (pointed (r .phase)) (answer .ended)))))
-      (by-number s g (record { rows = 0; delivered = 1; lost = 0; takes = true }) p i (check (full s) 17 (deliverRefusal s r answer)) r
-      (acceptedPlan (countersOf (benchOf s)) p answer (numberBy (answer .ended) (pointed (r .phase))) (rowBy (answer .ended) (getD (s .rows) (pointed (r .phase) - 1) emptyRow)))
+      (by-number s g (record { rows = 0; delivered = 1; lost = 0; takes = true }) p (check (full s) 17 (deliverRefusal s r answer)) r
+      (acceptedPlan (countersOf (benchOf s)) p i answer (numberBy (answer .ended) (pointed (r .phase))) (rowBy (answer .ended) (getD (s .rows) (pointed (r .phase) - 1) emptyRow)))
       (moved s p answer (removed i (s .flight)) (s .delivered + 1) (answeredRows (s .rows) (pointed (r .phase)) (answer .ended)))
       (λ z. taken-done s g p i l answer (numberBy (answer .ended) (pointed (r .phase))) (rowBy (answer .ended) (getD (s .rows) (pointed (r .phase) - 1) emptyRow)) (answeredRows (s .rows) (pointed (r .phase)) (answer .ended))
       mild (deliver-room r answer z) (rows-done s g (answer .ended) (r .phase) waited points) (answered-length (s .rows) (pointed (r .phase)) (answer .ended))))
 
   deliver-done : (k : ℕ) (f : Found) → f ≡ seek k 0 (s .flight) → Done (workOf (benchOf s) (Deliver k) (gathered s (Deliver k) f)) s (cond (full s) (outcome s 17 s) (deliverAt s f))
-  unfolding workOf whoseOf planOf deliverPlan
-  deliver-done k Missing e = missing-done s g (record { rows = 0; delivered = 1; lost = 0; takes = true }) (getD (s .flight) 512 emptyMessage .to .0) 512 (replicaOf s (getD (s .flight) 512 emptyMessage .to .0)) (full s)
+  unfolding workOf whoseOf planOf deliverPlan messageFound
+  deliver-done k Missing e = missing-done s g (record { rows = 0; delivered = 1; lost = 0; takes = true }) (emptyMessage .to .0) (replicaOf s (emptyMessage .to .0)) (full s)
   deliver-done k (Place i) e =
       let m : Message = getD (s .flight) i emptyMessage in
       let r : Replica = replicaOf s (m .to .0) in
@@ -187,14 +187,14 @@ module _ (s : State) (g : Good s) where
       (receive-done (m .to .0) i l r (answerTo (s .n) asked r m) (answer-right (s .n) asked r m (g .sender i l) .0) (answer-right (s .n) asked r m (g .sender i l) .1) (g .points i l))
 
   lose-by : (p i : ℕ) (r : Replica) → r ≡ getD (s .replicas) (p - 1) r → i < length (s .flight) → (u v : Bool)
-      → Done (workBy (benchOf s) (record { rows = 0; delivered = 0; lost = 1; takes = true }) p i (refusedPlan (check u 17 (check v 14 0)) r)) s (cond u (outcome s 17 s) (outcome s (check v 14 0) (withoutMessage s i)))
+      → Done (workBy (benchOf s) (record { rows = 0; delivered = 0; lost = 1; takes = true }) p (quietPlan (check u 17 (check v 14 0)) i r)) s (cond u (outcome s 17 s) (outcome s (check v 14 0) (withoutMessage s i)))
   lose-by p i r same l true v = refusal-done s g (record { rows = 0; delivered = 0; lost = 1; takes = true }) p i 17 r refl
   lose-by p i r same l false true = refusal-done s g (record { rows = 0; delivered = 0; lost = 1; takes = true }) p i 14 r refl
   lose-by p i r same l false false = lost-done s g p i r same l
 
   lose-done : (k : ℕ) (f : Found) → f ≡ seek k 0 (s .flight) → Done (workOf (benchOf s) (Lose k) (gathered s (Lose k) f)) s (cond (full s) (outcome s 17 s) (loseAt s f))
-  unfolding workOf whoseOf planOf losePlan
-  lose-done k Missing e = missing-done s g (record { rows = 0; delivered = 0; lost = 1; takes = true }) (getD (s .flight) 512 emptyMessage .to .0) 512 (replicaOf s (getD (s .flight) 512 emptyMessage .to .0)) (full s)
+  unfolding workOf whoseOf planOf losePlan messageFound
+  lose-done k Missing e = missing-done s g (record { rows = 0; delivered = 0; lost = 1; takes = true }) (emptyMessage .to .0) (replicaOf s (emptyMessage .to .0)) (full s)
   lose-done k (Place i) e =
       let m : Message = getD (s .flight) i emptyMessage in
       lose-by (m .to .0) i (replicaOf s (m .to .0)) (getD-again (s .replicas) (m .to .0 - 1) freshReplica) (found-within k i e) (full s) (not (replicaOf s (m .from .0) .crashed || replicaOf s (m .to .0) .crashed))
@@ -209,13 +209,18 @@ module _ (s : State) (g : Good s) where
 
 -- ---- what is gathered from the tables is what the state has
 
+found-laid : (s : State) (f : Found) → messageFound (laidMessages s) f ≡ messageFound (s .flight) f
+unfolding messageFound
+found-laid s (Place i) = getD-laid (512 - length (s .flight)) emptyMessage (s .flight) i
+found-laid s Missing = refl
+
 gathered-is : (s : State) (event : Event) → knownOf (askedIn (benchOf s) event (laidMessages s)) (getD (laidRows s) (askedIn (benchOf s) event (laidMessages s) .at) emptyRow) ≡ gathered s event (seek (wantedOf event) 0 (s .flight))
 unfolding knownOf askedFor whoseOf
 gathered-is s event =
     rw (
       take-append-seam (s .flight) (replicate (512 - length (s .flight)) emptyMessage),
-      getD-laid (512 - length (s .flight)) emptyMessage (s .flight) (placeOf (seek (wantedOf event) 0 (s .flight))),
-      getD-laid (1024 - length (s .rows)) emptyRow (s .rows) (pointed (replicaOf s (processOf event (getD (s .flight) (placeOf (seek (wantedOf event) 0 (s .flight))) emptyMessage)) .phase) - 1),
+      found-laid s (seek (wantedOf event) 0 (s .flight)),
+      getD-laid (1024 - length (s .rows)) emptyRow (s .rows) (pointed (replicaOf s (processOf event (messageFound (s .flight) (seek (wantedOf event) 0 (s .flight)))) .phase) - 1),
     )
 
 pub laid-done : (s : State) → Good s → (event : Event) → Done (wholeWork (benchOf s) event (laidMessages s) (laidRows s)) s (step s event)

@@ -24,7 +24,7 @@ use Rattle.state.specs.Step.{Outcome, outcome, posted, moved, withoutMessage}
 use Rattle.state.specs.Tabled.{benchOf}
 use Rattle.state.specs.KeepsMoved.{posted-length}
 use Rattle.decide.specs.declared.Plan.{Plan}
-use Rattle.decide.specs.Plan.{firstOf, refusedPlan, acceptedPlan, settled}
+use Rattle.decide.specs.Plan.{firstOf, quietPlan, refusedPlan, acceptedPlan, settled}
 use Rattle.advance.specs.declared.Tally.{Tally}
 use Rattle.advance.specs.declared.Work.{Work}
 use Rattle.advance.specs.Good.{Good}
@@ -84,7 +84,7 @@ idle s i number =
       stepped = record { refusal = number; bench = benchOf s };
     }
 
-refused-work : (s : State) (t : Tally) (p i number : ℕ) (r : Replica) → eqb number 0 ≡ false → workBy (benchOf s) t p i (refusedPlan number r) ≡ idle s i number
+refused-work : (s : State) (t : Tally) (p i number : ℕ) (r : Replica) → eqb number 0 ≡ false → workBy (benchOf s) t p (quietPlan number i r) ≡ idle s i number
 unfolding workBy
 refused-work s t p i number r e = rw (e, and-false (t .takes))
 
@@ -105,18 +105,18 @@ idle-done s g i number =
           };
     }
 
-pub refusal-done : (s : State) → Good s → (t : Tally) (p i number : ℕ) (r : Replica) → eqb number 0 ≡ false → Done (workBy (benchOf s) t p i (refusedPlan number r)) s (record { refusal = number; state = s })
+pub refusal-done : (s : State) → Good s → (t : Tally) (p i number : ℕ) (r : Replica) → eqb number 0 ≡ false → Done (workBy (benchOf s) t p (quietPlan number i r)) s (record { refusal = number; state = s })
 refusal-done s g t p i number r e = subst (λ (k : Work). Done k s (record { refusal = number; state = s })) (sym (refused-work s t p i number r e)) (idle-done s g i number)
 
 -- an event is refused, or it is not
-pub by-number : (s : State) → Good s → (t : Tally) (p i number : ℕ) (r : Replica) (plan : Plan) (next : State)
-    → (number ≡ 0 → Done (workBy (benchOf s) t p i plan) s (record { refusal = 0; state = next }))
-    → Done (workBy (benchOf s) t p i (settled number r plan)) s (outcome s number next)
-by-number s g t p i number r plan next accepts = go (eqb number 0) refl
+pub by-number : (s : State) → Good s → (t : Tally) (p number : ℕ) (r : Replica) (plan : Plan) (next : State)
+    → (number ≡ 0 → Done (workBy (benchOf s) t p plan) s (record { refusal = 0; state = next }))
+    → Done (workBy (benchOf s) t p (settled number r plan)) s (outcome s number next)
+by-number s g t p number r plan next accepts = go (eqb number 0) refl
   where
-    go : (u : Bool) → eqb number 0 ≡ u → Done (workBy (benchOf s) t p i (cond u plan (refusedPlan number r))) s (record { refusal = number; state = cond u next s })
-    go true e = let z : number ≡ 0 = eqb-true number 0 e in subst (λ (x : ℕ). Done (workBy (benchOf s) t p i plan) s (record { refusal = x; state = next })) (sym z) (accepts z)
-    go false e = refusal-done s g t p i number r e
+    go : (u : Bool) → eqb number 0 ≡ u → Done (workBy (benchOf s) t p (cond u plan (refusedPlan number r))) s (record { refusal = number; state = cond u next s })
+    go true e = let z : number ≡ 0 = eqb-true number 0 e in subst (λ (x : ℕ). Done (workBy (benchOf s) t p plan) s (record { refusal = x; state = next })) (sym z) (accepts z)
+    go false e = refusal-done s g t p 0 number r e
 
 -- ---- an acceptance
 
@@ -144,12 +144,12 @@ plus-none : (x : ℕ) → x + 0 ≡ x
 plus-none x = omega arith
 
 -- no message is taken off
-pub kept-done : (s : State) → Good s → (x p i : ℕ) (answer : Answer) (number : ℕ) (row : Row) (rows : List Row)
+pub kept-done : (s : State) → Good s → (x p : ℕ) (answer : Answer) (number : ℕ) (row : Row) (rows : List Row)
     → Mild (answer .sends) → length (s .flight) + sentBy (s .n) (answer .sends) ≤ 512 → set (laidRows s) (writtenAt number) row ≡ laid 1024 emptyRow rows → length rows ≡ length (s .rows) + x
-    → Done (workBy (benchOf s) (record { rows = x; delivered = 0; lost = 0; takes = false }) p i (acceptedPlan (countersOf (benchOf s)) p answer number row)) s
+    → Done (workBy (benchOf s) (record { rows = x; delivered = 0; lost = 0; takes = false }) p (acceptedPlan (countersOf (benchOf s)) p 0 answer number row)) s
     (record { refusal = 0; state = moved s p answer (s .flight) (s .delivered) rows })
 unfolding workBy
-kept-done s g x p i answer number row rows mild room laid-rows count =
+kept-done s g x p answer number row rows mild room laid-rows count =
     record {
       refusal = refl;
       bench =
@@ -179,7 +179,7 @@ off-is s g i l ys =
 
 pub taken-done : (s : State) → Good s → (p i : ℕ) → i < length (s .flight) → (answer : Answer) (number : ℕ) (row : Row) (rows : List Row)
     → Mild (answer .sends) → length (s .flight) - 1 + sentBy (s .n) (answer .sends) ≤ 512 → set (laidRows s) (writtenAt number) row ≡ laid 1024 emptyRow rows → length rows ≡ length (s .rows)
-    → Done (workBy (benchOf s) (record { rows = 0; delivered = 1; lost = 0; takes = true }) p i (acceptedPlan (countersOf (benchOf s)) p answer number row)) s
+    → Done (workBy (benchOf s) (record { rows = 0; delivered = 1; lost = 0; takes = true }) p (acceptedPlan (countersOf (benchOf s)) p i answer number row)) s
     (record { refusal = 0; state = moved s p answer (removed i (s .flight)) (s .delivered + 1) rows })
 unfolding workBy
 taken-done s g p i l answer number row rows mild room laid-rows count =
@@ -207,7 +207,7 @@ taken-done s g p i l answer number row rows mild room laid-rows count =
 
 -- a message is lost
 pub lost-done : (s : State) → Good s → (p i : ℕ) (r : Replica) → r ≡ getD (s .replicas) (p - 1) r → i < length (s .flight)
-    → Done (workBy (benchOf s) (record { rows = 0; delivered = 0; lost = 1; takes = true }) p i (refusedPlan 0 r)) s (record { refusal = 0; state = withoutMessage s i })
+    → Done (workBy (benchOf s) (record { rows = 0; delivered = 0; lost = 1; takes = true }) p (quietPlan 0 i r)) s (record { refusal = 0; state = withoutMessage s i })
 unfolding workBy
 lost-done s g p i r same l =
     record {

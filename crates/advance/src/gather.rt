@@ -3,7 +3,7 @@ ghost use mathlib.Core.Path.{_≡_};
 ghost use Prim.Native.Nat.{_-_};
 ghost use lib.ListN.{length, getD};
 ghost use Rattle.state.specs.State.{freshReplica};
-ghost use Rattle.advance.specs.Parts.{wantedOf, placeOf, soughtOf, processOf, replicaAt, downAt, whoseOf, askedOf, knownOf};
+ghost use Rattle.advance.specs.Parts.{wantedOf, soughtOf, processOf, replicaAt, downAt, whoseOf, askedOf, knownOf};
 use crate::Asked;
 use crate::Known;
 use crate::Sought;
@@ -21,9 +21,6 @@ use words::Pid;
 use words::Rid;
 use words::Stamp;
 use words::Time;
-
-// No message is at this place: the table ends before it.
-const NOWHERE: usize = 512;
 
 // The number of the message that is delivered or lost; 0 for the other events.
 pub fn wanted(event: Event) -> u32
@@ -48,15 +45,6 @@ pub fn row_place(a: Asked) -> usize
     ensures { λ r. ⌜ r ≡ a .at ⌝ }
 {
     a.at
-}
-
-pub fn place_of(found: Found) -> usize
-    ensures { λ r. ⌜ r ≡ placeOf found ⌝ }
-{
-    match found {
-        Found::At(i) => i,
-        Found::Missing => NOWHERE,
-    }
 }
 
 pub fn sought_of(found: Found, message: Message) -> Sought

@@ -5,7 +5,7 @@ ghost use Prim.Native.Nat.{_≤_, _<_};
 ghost use lib.ListN.{length, getD};
 ghost use Rattle.tables.specs.Tables.{emptyRow, copies, laidAt};
 ghost use Rattle.state.specs.Tabled.{tabled};
-ghost use Rattle.advance.specs.Parts.{Bounded, wantedOf, soughtIn, askedIn, knownOf, workOf, droppedIf, carriedMessages, carriedRows, Sound};
+ghost use Rattle.advance.specs.Parts.{Bounded, wantedOf, messageFound, soughtIn, askedIn, knownOf, workOf, droppedIf, carriedMessages, carriedRows, Sound};
 ghost use Rattle.advance.specs.Advanced.{Advanced};
 use replica::Replica;
 use state::Bench;
@@ -68,14 +68,23 @@ pub struct Work {
     pub stepped: Stepped,
 }
 
+// The message at the place that was found, the empty one where none was.
+fn message_found(t: &[Message], found: Found) -> Message
+    ensures { λ r. ⌜ r ≡ messageFound (now (t .entry)) found ⌝ }
+{
+    let Found::At(place) = found else {
+        return tables::empty_message();
+    };
+    tables::message_at(t, place)
+}
+
 // The message of a number among the first n, and its place.
 fn seek_out(t: &[Message], n: usize, k: u32) -> Sought
     requires { ⌜ n ≤ length (now t) ⌝ }
     ensures { λ r. ⌜ r ≡ soughtIn (now (t .entry)) n k ⌝ }
 {
     let found = tables::find(t, n, k);
-    let at = gather::place_of(found);
-    let message = tables::message_at(t, at);
+    let message = message_found(t, found);
     gather::sought_of(found, message)
 }
 

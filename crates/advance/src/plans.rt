@@ -141,9 +141,9 @@ fn finish(bench: Bench, t: Tally, p: u8, from: u16, plan: Plan) -> Stepped
     }
 }
 
-fn work_by(bench: Bench, t: Tally, p: u8, at: usize, plan: Plan) -> Work
+fn work_by(bench: Bench, t: Tally, p: u8, plan: Plan) -> Work
     requires { ⌜ Bounded bench × ((t .rows ≤ 1) × (t .delivered ≤ 1) × (t .lost ≤ 1)) ⌝ }
-    ensures { λ r. ⌜ r ≡ workBy bench t p at plan ⌝ }
+    ensures { λ r. ⌜ r ≡ workBy bench t p plan ⌝ }
 {
     let cut = t.takes & (plan.refusal == 0);
     let from = from_of(cut, bench.flight);
@@ -152,7 +152,7 @@ fn work_by(bench: Bench, t: Tally, p: u8, at: usize, plan: Plan) -> Work
     let row = plan.row;
     Work {
         cut: cut,
-        at: at,
+        at: plan.at,
         flight: bench.flight as usize,
         from: from as usize,
         count: plan.count,
@@ -173,7 +173,7 @@ pub fn work_of(bench: Bench, event: Event, k: Known) -> Work
     let w = gather::whose(bench, event, message);
     let r = w.r;
     let plan = events::plan_of(counters(bench), event, found, message, w.down, r, row);
-    work_by(bench, tally(event), w.p, gather::place_of(found), plan)
+    work_by(bench, tally(event), w.p, plan)
 }
 
 // The parts of the work, one by one: a walk takes no struct apart.

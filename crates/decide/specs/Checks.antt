@@ -3,7 +3,8 @@ use Prim.Native.Nat.{ℕ, _+_, _-_}
 use mathlib.Core.Bool.{Bool, not}
 use lib.Dec.{leb}
 use Rattle.words.specs.Ranges.{within}
-use Rattle.state.specs.Step.{check, noRoom}
+use Rattle.tables.specs.declared.Found.the-variants.{Missing}
+use Rattle.state.specs.Step.{check, noRoom, foundRefusal}
 use Rattle.decide.specs.declared.Counters.{Counters}
 
 abbrev pub full : Counters → Bool
@@ -21,7 +22,7 @@ invokeChecks c p x crashed idle later =
 
 -- no such message in flight: 17, else 12
 abbrev pub missingChecks : Counters → ℕ
-missingChecks c = check (full c) 17 12
+missingChecks c = check (full c) 17 (foundRefusal Missing)
 
 abbrev pub deliverChecks : Counters → Bool → ℕ → ℕ → ℕ
 deliverChecks c crashed count later = check (full c) 17 (check crashed 13 (check (noRoom (c .flight - 1 + count)) 15 later))

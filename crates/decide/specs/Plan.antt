@@ -36,15 +36,20 @@ firstOf number from Nothing = emptyMessage
 firstOf number from (Reply to letter) = messageOf number from (to .0) letter
 firstOf number from (Broadcast letter) = messageOf number from 1 letter
 
-abbrev pub refusedPlan : ℕ → Replica → Plan
-refusedPlan number r = record { refusal = number; replica = r; count = 0; first = emptyMessage; number = 0; row = emptyRow }
+-- nothing but the message at a place is touched, and that where it is not refused
+abbrev pub quietPlan : ℕ → ℕ → Replica → Plan
+quietPlan number at r = record { refusal = number; replica = r; at = at; count = 0; first = emptyMessage; number = 0; row = emptyRow }
 
--- p's answer c, with the row of a number
-abbrev pub acceptedPlan : Counters → ℕ → Answer → ℕ → Row → Plan
-acceptedPlan c p answer number row =
+abbrev pub refusedPlan : ℕ → Replica → Plan
+refusedPlan number r = quietPlan number 0 r
+
+-- p's answer, with the row of a number, and the place of the message that it answers, if it answers one
+abbrev pub acceptedPlan : Counters → ℕ → ℕ → Answer → ℕ → Row → Plan
+acceptedPlan c p at answer number row =
     record {
       refusal = 0;
       replica = answer .replica;
+      at = at;
       count = sentBy (c .n) (answer .sends);
       first = firstOf (c .sent + 1) p (answer .sends);
       number = number;
@@ -58,13 +63,13 @@ unfoldable pub readPlan : Counters → ℕ → ℕ → Replica → Plan
 readPlan c p x r =
     let answer = readBegun r x (c .rows + 1) in
     settled (invokeChecks c p x (r .crashed) (isIdle (r .phase)) (answer .refusal)) r
-    (acceptedPlan c p answer (c .rows + 1) (readRow p x (answer .replica .clock .0)))
+    (acceptedPlan c p 0 answer (c .rows + 1) (readRow p x (answer .replica .clock .0)))
 
 unfoldable pub writePlan : Counters → ℕ → ℕ → ℤ → Replica → Plan
 writePlan c p x value r =
     let answer = writeBegun r (record { 0 = p }) x value (c .rows + 1) in
     settled (invokeChecks c p x (r .crashed) (isIdle (r .phase)) (answer .refusal)) r
-    (acceptedPlan c p answer (c .rows + 1) (writeRow p x value (answer .replica .clock .0)))
+    (acceptedPlan c p 0 answer (c .rows + 1) (writeRow p x value (answer .replica .clock .0)))
 
 -- the register that a querying replica asks for, which its row has; any other asks for none, and 1 stands in
 abbrev pub askedOf : Phase → Row → ℕ
@@ -95,16 +100,16 @@ deliverPlan c Missing message r row = refusedPlan (missingChecks c) r
 deliverPlan c (Place i) message r row =
     let answer = answerTo (c .n) (askedOf (r .phase) row) r message in
     settled (deliverChecks c (r .crashed) (sentBy (c .n) (answer .sends)) (answer .refusal)) r
-    (acceptedPlan c (message .to .0) answer (numberBy (answer .ended) (pointed (r .phase))) (rowBy (answer .ended) row))
+    (acceptedPlan c (message .to .0) i answer (numberBy (answer .ended) (pointed (r .phase))) (rowBy (answer .ended) row))
 
 unfoldable pub crashPlan : Counters → ℕ → Replica → Plan
 crashPlan c p r =
     let answer = crashed r in
-    settled (crashChecks c p (r .crashed) (answer .refusal)) r (acceptedPlan c p answer 0 emptyRow)
+    settled (crashChecks c p (r .crashed) (answer .refusal)) r (acceptedPlan c p 0 answer 0 emptyRow)
 
 unfoldable pub losePlan : Counters → Found → Bool → Replica → Plan
 losePlan c Missing down r = refusedPlan (missingChecks c) r
-losePlan c (Place i) down r = refusedPlan (loseChecks c down) r
+losePlan c (Place i) down r = quietPlan (loseChecks c down) i r
 
 -- an event, with the message and the row that were gathered for it, and whether one of the message's ends has crashed
 unfoldable pub planOf : Counters → Event → Found → Message → Bool → Replica → Row → Plan

@@ -1,7 +1,7 @@
 // The plan of each event.
 ghost use mathlib.Core.Path.{_≡_};
 ghost use Prim.Native.Nat.{_≤_};
-ghost use Rattle.decide.specs.Plan.{refusedPlan, settled, acceptedPlan, readPlan, writePlan, deliverPlan, crashPlan, losePlan, planOf};
+ghost use Rattle.decide.specs.Plan.{quietPlan, refusedPlan, settled, acceptedPlan, readPlan, writePlan, deliverPlan, crashPlan, losePlan, planOf};
 use crate::Counters;
 use crate::Plan;
 use crate::checks;
@@ -17,12 +17,17 @@ use tables::Row;
 use words::Message;
 use words::Pid;
 
-fn refused_plan(number: u8, r: Replica) -> Plan
-    ensures { λ q. ⌜ q ≡ refusedPlan number r ⌝ }
+// The place of a plan that takes no message off.
+const NO_PLACE: usize = 0;
+
+// Nothing but the message at a place is touched, and that where it is not refused.
+fn quiet_plan(number: u8, at: usize, r: Replica) -> Plan
+    ensures { λ q. ⌜ q ≡ quietPlan number at r ⌝ }
 {
     Plan {
         refusal: number,
         replica: r,
+        at: at,
         count: 0,
         first: tables::empty_message(),
         number: 0,
@@ -30,9 +35,15 @@ fn refused_plan(number: u8, r: Replica) -> Plan
     }
 }
 
-fn accepted_plan(c: Counters, p: u8, answer: Answer, number: u16, row: Row) -> Plan
+fn refused_plan(number: u8, r: Replica) -> Plan
+    ensures { λ q. ⌜ q ≡ refusedPlan number r ⌝ }
+{
+    quiet_plan(number, NO_PLACE, r)
+}
+
+fn accepted_plan(c: Counters, p: u8, at: usize, answer: Answer, number: u16, row: Row) -> Plan
     requires { ⌜ c .sent ≤ 84000 ⌝ }
-    ensures { λ q. ⌜ q ≡ acceptedPlan c p answer number row ⌝ }
+    ensures { λ q. ⌜ q ≡ acceptedPlan c p at answer number row ⌝ }
 {
     let next = answer.replica;
     let sends = answer.sends;
@@ -41,6 +52,7 @@ fn accepted_plan(c: Counters, p: u8, answer: Answer, number: u16, row: Row) -> P
     Plan {
         refusal: 0,
         replica: next,
+        at: at,
         count: count,
         first: first,
         number: number,
@@ -70,7 +82,11 @@ fn read_plan(c: Counters, p: u8, x: u8, r: Replica) -> Plan
     let next = answer.replica;
     let clock = next.clock;
     let row = rows::read_row(p, x, clock);
-    settle(refusal, r, accepted_plan(c, p, answer, number, row))
+    settle(
+        refusal,
+        r,
+        accepted_plan(c, p, NO_PLACE, answer, number, row),
+    )
 }
 
 fn write_plan(c: Counters, p: u8, x: u8, value: i64, r: Replica) -> Plan
@@ -85,14 +101,18 @@ fn write_plan(c: Counters, p: u8, x: u8, value: i64, r: Replica) -> Plan
     let next = answer.replica;
     let clock = next.clock;
     let row = rows::write_row(p, x, value, clock);
-    settle(refusal, r, accepted_plan(c, p, answer, number, row))
+    settle(
+        refusal,
+        r,
+        accepted_plan(c, p, NO_PLACE, answer, number, row),
+    )
 }
 
 fn deliver_plan(c: Counters, found: Found, message: Message, r: Replica, row: Row) -> Plan
     requires { ⌜ c .sent ≤ 84000 ⌝ }
     ensures { λ q. ⌜ q ≡ deliverPlan c found message r row ⌝ }
 {
-    let Found::At(_) = found else {
+    let Found::At(place) = found else {
         return refused_plan(checks::missing_checks(c), r);
     };
     let phase = r.phase;
@@ -104,7 +124,7 @@ fn deliver_plan(c: Counters, found: Found, message: Message, r: Replica, row: Ro
     let refusal = checks::deliver_checks(c, r.crashed, count, answer.refusal);
     let number = rows::number_by(ended, phases::pointed_by(phase));
     let to = message.to;
-    let plan = accepted_plan(c, to.0, answer, number, rows::row_by(ended, row));
+    let plan = accepted_plan(c, to.0, place, answer, number, rows::row_by(ended, row));
     settle(refusal, r, plan)
 }
 
@@ -115,17 +135,17 @@ fn crash_plan(c: Counters, p: u8, r: Replica) -> Plan
     let answer = r.crash();
     let refusal = checks::crash_checks(c, p, r.crashed, answer.refusal);
     let row = tables::empty_row();
-    settle(refusal, r, accepted_plan(c, p, answer, 0, row))
+    settle(refusal, r, accepted_plan(c, p, NO_PLACE, answer, 0, row))
 }
 
-// A lost message changes no replica: the plan only says whether it may be lost.
+// A lost message changes no replica: the plan only says whether it may be lost, and from which place.
 fn lose_plan(c: Counters, found: Found, down: bool, r: Replica) -> Plan
     ensures { λ q. ⌜ q ≡ losePlan c found down r ⌝ }
 {
-    let Found::At(_) = found else {
+    let Found::At(place) = found else {
         return refused_plan(checks::missing_checks(c), r);
     };
-    refused_plan(checks::lose_checks(c, down), r)
+    quiet_plan(checks::lose_checks(c, down), place, r)
 }
 
 pub fn plan_of(

@@ -20,11 +20,12 @@ pub struct Counters {
     pub rows: u16,
 }
 
-// What is to be carried out: nothing where it is refused. The replica takes its place again, `count` messages follow from `first` on, and
-// the row of this number, if it is not 0, is written.
+// What is to be carried out: nothing where it is refused. The replica takes its place again, the message `at` a place is taken off if the event
+// takes one, `count` messages follow from `first` on, and the row of this number, if it is not 0, is written.
 pub struct Plan {
     pub refusal: u8,
     pub replica: Replica,
+    pub at: usize,
     pub count: u8,
     pub first: Message,
     pub number: u16,

@@ -21,5 +21,10 @@ fn main() {
     let mut text = [0u8; 81563];
     let read = io::read_full(STDIN_FILENO, &mut bytes);
     let written = replaying::replay(&bytes[..read], &mut text);
-    io::write_all(STDOUT_FILENO, &text[..written]);
+    if !io::write_all(STDOUT_FILENO, &text[..written]) {
+        io::write_all(
+            STDERR_FILENO,
+            b"replay: the text could not be written to standard output\n",
+        );
+    }
 }

@@ -4,7 +4,7 @@ ghost use lib.ListN.{length, take};
 ghost use Rattle.text.specs.Lines.{tailText};
 ghost use Rattle.text.specs.Written.{Wrote};
 use crate::lines::put_count_line;
-use crate::order::put_order_line;
+use crate::listing::put_order_line;
 use crate::replicas::put_proc_lines;
 use crate::replicas::put_store_lines;
 use state::Bench;

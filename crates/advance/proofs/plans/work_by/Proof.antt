@@ -15,11 +15,11 @@ finish-requires c κs =
     let s = c .before .before .before in
     (s .pre .0, (s .pre .1 .0, s .pre .1 .1, s .pre .1 .2, rw (c .from-of .ensures) (from-small (s .args .t .takes && eqb (s .args .plan .refusal) 0) (s .args .bench .flight) (s .pre .0 .flight))))
 
+cast-t11 : tie.Need-cast-t11
+cast-t11 c = search needs
+
 cast-t12 : tie.Need-cast-t12
 cast-t12 c = search needs
-
-cast-t13 : tie.Need-cast-t13
-cast-t13 c = search needs
 
 written-at-requires : tie.Need-written-at-requires
 written-at-requires c κs = search needs
@@ -31,4 +31,4 @@ returns c = rw (c .written-at .ensures, c .before .before .before .before .finis
 pub work-by-spec : {M : Type 1} → statement M
 work-by-spec =
     tie.close
-    (tie.spec from-of-requires finish-requires cast-t12 cast-t13 written-at-requires returns)
+    (tie.spec from-of-requires finish-requires cast-t11 cast-t12 written-at-requires returns)

@@ -19,18 +19,15 @@ plan-of-requires c κs =
 tally-requires : tie.Need-tally-requires
 tally-requires c κs = search needs
 
-place-of-requires : tie.Need-place-of-requires
-place-of-requires c κs = search needs
-
 work-by-requires : tie.Need-work-by-requires
 work-by-requires c κs =
-    let s = c .before .before .before .before .before .before .before .before in
-    rw (c .before .tally .ensures) (s .pre, tally-small (s .args .event))
+    let s = c .before .before .before .before .before .before .before in
+    rw (c .tally .ensures) (s .pre, tally-small (s .args .event))
 
 returns : tie.Need-returns
 unfolding workOf
 returns c =
-    rw (c .work-by .ensures, c .before .place-of .ensures, c .before .before .tally .ensures, c .before .before .before .plan-of .ensures, c .before .before .before .before .counters .ensures, c .before .before .before .before .before .before .whose .ensures)
+    rw (c .work-by .ensures, c .before .tally .ensures, c .before .before .plan-of .ensures, c .before .before .before .counters .ensures, c .before .before .before .before .before .whose .ensures)
 
 pub work-of-spec : {M : Type 1} → statement M
 work-of-spec =
@@ -40,6 +37,5 @@ work-of-spec =
     counters-requires
     plan-of-requires
     tally-requires
-    place-of-requires
     work-by-requires
     returns)

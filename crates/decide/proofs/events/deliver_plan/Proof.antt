@@ -5,11 +5,11 @@ use borrow.Author.Needs.{needs}
 use Rattle.decide.proofs.events.deliver_plan.Statement.{statement}
 use Rattle.decide.proofs.events.deliver_plan.Tie as tie
 
+enum-known-found : tie.Need-enum-known-found
+enum-known-found c = search needs
+
 enum-told : tie.Need-enum-told
 enum-told c = search needs
-
-enum-told-2 : tie.Need-enum-told-2
-enum-told-2 c = search needs
 
 missing-checks-requires : tie.Need-missing-checks-requires
 missing-checks-requires c κs = search needs
@@ -22,7 +22,7 @@ unfolding deliverPlan
 returns c =
     let a = c .before .before .before .before .args in
     rw (c .refused-plan .ensures, c .before .missing-checks .ensures)
-    (sym (ap (λ f. deliverPlan (a .c) f (a .message) (a .r) (a .row)) (c .before .before .enum-told2 .given .1)))
+    (sym (ap (λ f. deliverPlan (a .c) f (a .message) (a .r) (a .row)) (c .before .before .enum-told .given .1)))
 
 asked-of-requires : tie.Need-asked-of-requires
 asked-of-requires c κs = search needs
@@ -54,16 +54,16 @@ settle-requires c κs = search needs
 returns-2 : tie.Need-returns-2
 unfolding deliverPlan
 returns-2 c =
-    let a = c .before .before .before .before .before .before .before .before .before .before .before .before .args in
+    let a = c .before .before .before .before .before .before .before .before .before .before .before .before .before .args in
     rw (c .settle .ensures, c .before .accepted-plan .ensures, c .before .before .row-by .ensures, c .before .before .before .before .number-by .ensures, c .before .before .before .before .before .pointed-by .ensures, c .before .before .before .before .before .before .deliver-checks .ensures, c .before .before .before .before .before .before .before .count-of .ensures, c .before .before .before .before .before .before .before .before .answer-to .ensures, c .before .before .before .before .before .before .before .before .before .asked-of .ensures)
-    (sym (ap (λ f. deliverPlan (a .c) f (a .message) (a .r) (a .row)) (c .before .before .before .before .before .before .before .before .before .before .enum-told .given .1)))
+    (sym (ap (λ f. deliverPlan (a .c) f (a .message) (a .r) (a .row)) (c .before .before .before .before .before .before .before .before .before .before .before .found .given .1)))
 
 pub deliver-plan-spec : {M : Type 1} → statement M
 deliver-plan-spec =
     tie.close
     (tie.spec
+    enum-known-found
     enum-told
-    enum-told-2
     missing-checks-requires
     refused-plan-requires
     returns

@@ -1,4 +1,4 @@
--- `text::order::put_numbers` meets its contract.
+-- `text::listing::put_numbers` meets its contract.
 use Prim.Native.Nat.{ℕ, _≤_, _-_, _*_}
 use mathlib.Core.Path.{_≡_, refl, ap}
 use native.Mathlib.Omega.{arith}
@@ -9,8 +9,8 @@ use Rattle.text.specs.LineLaws.{one-number}
 use Rattle.text.specs.Written.{Wrote}
 use Rattle.text.specs.WrittenLaws.{nothing, andThen, asText}
 use Rattle.text.specs.Printed.{numbers}
-use Rattle.text.proofs.order.put_numbers.Statement.{statement}
-use Rattle.text.proofs.order.put_numbers.Tie as tie
+use Rattle.text.proofs.listing.put_numbers.Statement.{statement}
+use Rattle.text.proofs.listing.put_numbers.Tie as tie
 
 abbrev Inv-loop : tie.InvT-loop
 Inv-loop buf₀ at order count next₀ i₀ buf next i = (i ≤ count) × (length buf ≡ length buf₀) × Wrote at (numbers (take i order)) (6 * i) buf₀ buf next

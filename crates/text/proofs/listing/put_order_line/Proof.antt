@@ -1,11 +1,11 @@
--- `text::order::put_order_line` meets its contract.
+-- `text::listing::put_order_line` meets its contract.
 use mathlib.Core.Path.{refl}
 use native.Mathlib.Omega.{arith}
 use borrow.Author.Needs.{needs}
 use Rattle.text.specs.WrittenLaws.{andThen, asText}
 use Rattle.text.specs.Printed.{orderLine}
-use Rattle.text.proofs.order.put_order_line.Statement.{statement}
-use Rattle.text.proofs.order.put_order_line.Tie as tie
+use Rattle.text.proofs.listing.put_order_line.Statement.{statement}
+use Rattle.text.proofs.listing.put_order_line.Tie as tie
 
 slice-aggregate-put-word : tie.Need-slice-aggregate-put-word
 slice-aggregate-put-word c = search needs
