@@ -87,7 +87,8 @@ kn=' '.join(f'({dash(f)}-known : Triple 𝓤 (𝓣 .C #{c}·{dash(f)}) ({K} 𝓤
 knT=''.join(f'Triple 𝓤 (𝓣 .C #{c}·{dash(f)}) ({K} 𝓤 H A mem run) → ' for f,K,c in CAL)
 cites='\n'.join(f'    (cited 𝓤 H ({K} 𝓤 H (𝓖 .A) (𝓜 .mem) (𝓡 .run)) 𝓜 𝓡 code.env #{c}·{dash(f)} {dash(f)}-def.routine code.calls-{c}·{dash(f)} ({dash(f)}-thm.met 𝓤 H 𝓜 𝓖 𝓡))' for f,K,c in CAL)
 B='(((κ₀, (κ₁, tt)), (q₀, (q₁, tt)), tt, a, at), tt)'
-text=f'''-- `order::fill_order` meets its contract: a walk of its MIR, by hand (`tools/walks/fill_order.py` writes it). A local array is lent once; a loop lends it to `take_in` each turn, with
+text=f'''-- Written by tools/walks/fill_order.py: change that.
+-- `order::fill_order` meets its contract: a walk of its MIR. A local array is lent once; a loop lends it to `take_in` each turn, with
 -- a row that is read by value; then it is lent to `lay_order`, together with `out`. What a turn begins with is which keys are still to be taken in (`Taken`).
 -- Assumes nothing.
 use mathlib.Core.Path.{{_≡_, refl}}

@@ -2,7 +2,7 @@ root='.'
 crate='judge'; lib='tables'; fn='is_tabled'; locals=7; lead=1
 params=[('b','Bench'),('t','shr'),('u','shr₂')]
 result='bool'
-structs={'Bench':'Rattle.state.specs.declared.Bench','Limits':'Rattle.judge.specs.declared.Limits','RowScan':'Rattle.judge.specs.declared.RowScan'}
+structs={'Bench':('Rattle.state.specs.declared.Bench','Rattle.state.proofs.OfBench'),'Limits':'Rattle.judge.specs.declared.Limits','RowScan':'Rattle.judge.specs.declared.RowScan'}
 callees=[('counts.limits_of','LimitsOf','judge'),('scan_messages','ScanMessages','judge'),('scan_rows','ScanRows','judge'),('replicas.judge','Judge','judge')]
 calls=[]
 own=['LimitsOf','ScanMessages','ScanRows','Judge','calls-limits-of','calls-scan-messages','calls-scan-rows','calls-judge']

@@ -2,7 +2,7 @@ root='.'
 crate='report'; lib='tables'; fn='put_report'; locals=15
 params=[('buf','mut8'),('bench','Bench'),('f','u8'),('rows','shr₂'),('order','shr16'),('c','usize')]
 result='usize'
-structs={'Bench':'Rattle.state.specs.declared.Bench'}
+structs={'Bench':('Rattle.state.specs.declared.Bench','Rattle.state.proofs.OfBench')}
 callees=[('lines.put_run_line','PutRunLine','text'),('put_rows','PutRows','report'),('tail.put_tail','PutTail','text')]
 calls=[]
 own=['PutRunLine','PutRows','PutTail','calls-put-run-line','calls-put-rows','calls-put-tail']

@@ -163,7 +163,8 @@ def lproj(i,m): return 'l' if m==1 else 'l'+' .1'*i+('' if i==m-1 else ' .0')
 res=d['result']
 out=[]
 P=out.append
-P(f'-- `{crate}::{fn}` meets its contract: a walk of its MIR, by hand. {d.get("about","")}'.rstrip())
+P(f'-- Written by tools/walks/walkgen.py from {os.path.basename(sys.argv[1])} beside it: change that.')
+P(f'-- `{crate}::{fn}` meets its contract: a walk of its MIR. {d.get("about","")}'.rstrip())
 P('-- Assumes nothing.')
 loop=d.get('loop',False)
 uses=f'''use mathlib.Core.Path.{{_≡_, refl, sym, ap, subst, _∙_}}

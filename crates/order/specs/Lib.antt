@@ -1,11 +1,12 @@
 pub mod Operations
 pub mod Keys
-pub mod Ranks
-pub mod RankLaws
 pub mod DigitLaws
 pub mod KeyLaws
 pub mod ComputedLaws
-pub mod LayingLaws
 pub mod SortMapLaws
 pub mod PointKeyLaws
 pub mod FillLaws
+pub mod PointLaws
+pub mod PackLaws
+pub mod LoopLaws
+pub mod PlaceLaws

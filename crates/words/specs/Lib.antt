@@ -4,3 +4,5 @@ pub mod Ranges
 pub mod RangeLaws
 pub mod Stamps
 pub mod StampLaws
+pub mod Rank
+pub mod RankLaws

@@ -66,7 +66,7 @@ three-ways m n =
     ]
 
 -- a stamp is its two numbers
-same-stamp : (a b : Stamp) → a .time .0 ≡ b .time .0 → a .process .0 ≡ b .process .0 → a ≡ b
+pub same-stamp : (a b : Stamp) → a .time .0 ≡ b .time .0 → a .process .0 ≡ b .process .0 → a ≡ b
 same-stamp a b p q = λ i. record { time = record { 0 = p i }; process = record { 0 = q i } }
 
 pub below-total : (a b : Stamp) → T (below a b) ⊎ ((a ≡ b) ⊎ T (below b a))

@@ -1,4 +1,5 @@
--- `advance::act` meets its contract: a walk of its MIR, by hand. Two calls in a row, over two tables.
+-- Written by tools/walks/walkgen.py from act.py beside it: change that.
+-- `advance::act` meets its contract: a walk of its MIR. Two calls in a row, over two tables.
 -- Assumes nothing.
 use mathlib.Core.Path.{_≡_, refl, sym, ap, subst, _∙_}
 use Prim.Native.Nat.{ℕ, _-_}
@@ -46,20 +47,20 @@ use Rattle.advance.proofs.conclude.Symbol as conclude-def
 use Rattle.advance.proofs.conclude.Symbol.{name as #advance·conclude}
 use Rattle.advance.proofs.conclude.Met as conclude-thm
 use Rattle.advance.specs.Parts.{Bounded, Sound, workOf, carriedMessages, carriedRows}
-use Rattle.state.specs.declared.Bench.{Bench}
-use Rattle.state.specs.declared.Event.{Event}
-use Rattle.state.specs.declared.Stepped.{Stepped}
-use Rattle.advance.specs.declared.Known.{Known}
-use Rattle.advance.specs.declared.Work.{Work}
-use Rattle.advance.proofs.Benches.{R as R-Bench, val as val-Bench, vals as vals-Bench, tells as tells-Bench, typed as typed-Bench}
-use Rattle.advance.proofs.Events.{R as R-Event, val as val-Event, vals as vals-Event, tells as tells-Event, typed as typed-Event}
-use Rattle.advance.proofs.Knowns.{R as R-Known, val as val-Known, vals as vals-Known, tells as tells-Known, typed as typed-Known}
-use Rattle.advance.proofs.Works.{typed as typed-Work}
-use Rattle.advance.proofs.Steppeds.{R as R-Stepped, val as val-Stepped, vals as vals-Stepped, typed as typed-Stepped, makes as makes-Stepped}
 use Rattle.advance.proofs.act.Key.{name as #advance·act}
 use Rattle.advance.proofs.act as act
 use Rattle.advance.proofs.act.Statement as stated
 use Rattle.advance.proofs.act.Code as code
+use Rattle.state.specs.declared.Bench.{Bench}
+use Rattle.advance.proofs.Benches.{R as R-Bench, val as val-Bench, vals as vals-Bench, tells as tells-Bench, typed as typed-Bench}
+use Rattle.state.specs.declared.Event.{Event}
+use Rattle.advance.proofs.Events.{R as R-Event, val as val-Event, vals as vals-Event, tells as tells-Event, typed as typed-Event}
+use Rattle.advance.specs.declared.Known.{Known}
+use Rattle.advance.proofs.Knowns.{R as R-Known, val as val-Known, vals as vals-Known, tells as tells-Known, typed as typed-Known}
+use Rattle.state.specs.declared.Stepped.{Stepped}
+use Rattle.advance.proofs.Steppeds.{R as R-Stepped, val as val-Stepped, vals as vals-Stepped, typed as typed-Stepped, makes as makes-Stepped}
+use Rattle.advance.specs.declared.Work.{Work}
+use Rattle.advance.proofs.Works.{typed as typed-Work}
 
 abbrev stayed : Stays (act.ended .signature .params) (act.ended .kept)
 stayed = (stay-slice (0 ∷ []) tt (plain (λ _. R)), (stay-slice (1 ∷ []) tt (plain (λ _. R₂)), (stay-none (λ _. R-Bench) yes, (stay-none (λ _. R-Event) yes, (stay-none (λ _. R-Known) yes, tt)))))

@@ -1,4 +1,5 @@
--- `advance::advance` meets its contract: a walk of its MIR, by hand. Gather, decide, carry; that it is `step` is the law `Advances`.
+-- Written by tools/walks/walkgen.py from advance.py beside it: change that.
+-- `advance::advance` meets its contract: a walk of its MIR. Gather, decide, carry; that it is `step` is the law `Advances`.
 -- Assumes nothing.
 use mathlib.Core.Path.{_≡_, refl}
 use Prim.Native.Nat.{ℕ, _-_}
@@ -51,18 +52,18 @@ use Rattle.advance.proofs.act.Met as act-thm
 use Rattle.state.specs.Tabled.{tabled}
 use Rattle.advance.specs.Advanced.{Advanced}
 use Rattle.advance.specs.Advances.{bounded, flight-within, ready, done as steps}
-use Rattle.state.specs.declared.Bench.{Bench}
-use Rattle.state.specs.declared.Event.{Event}
-use Rattle.state.specs.declared.Stepped.{Stepped}
-use Rattle.advance.proofs.Benches.{R as R-Bench, val as val-Bench, vals as vals-Bench, tells as tells-Bench, typed as typed-Bench}
-use Rattle.advance.proofs.Events.{R as R-Event, val as val-Event, vals as vals-Event, tells as tells-Event, typed as typed-Event}
-use Rattle.advance.proofs.Askeds.{typed as typed-Asked}
-use Rattle.advance.proofs.Knowns.{typed as typed-Known}
-use Rattle.advance.proofs.Steppeds.{R as R-Stepped, val as val-Stepped, vals as vals-Stepped, typed as typed-Stepped, makes as makes-Stepped}
 use Rattle.advance.proofs.advance.Key.{name as #advance·advance}
 use Rattle.advance.proofs.advance as advance
 use Rattle.advance.proofs.advance.Statement as stated
 use Rattle.advance.proofs.advance.Code as code
+use Rattle.advance.proofs.Askeds.{typed as typed-Asked}
+use Rattle.state.specs.declared.Bench.{Bench}
+use Rattle.advance.proofs.Benches.{R as R-Bench, val as val-Bench, vals as vals-Bench, tells as tells-Bench, typed as typed-Bench}
+use Rattle.state.specs.declared.Event.{Event}
+use Rattle.advance.proofs.Events.{R as R-Event, val as val-Event, vals as vals-Event, tells as tells-Event, typed as typed-Event}
+use Rattle.advance.proofs.Knowns.{typed as typed-Known}
+use Rattle.state.specs.declared.Stepped.{Stepped}
+use Rattle.advance.proofs.Steppeds.{R as R-Stepped, val as val-Stepped, vals as vals-Stepped, typed as typed-Stepped, makes as makes-Stepped}
 
 abbrev stayed : Stays (advance.ended .signature .params) (advance.ended .kept)
 stayed = (stay-slice (0 ∷ []) tt (plain (λ _. R)), (stay-slice (1 ∷ []) tt (plain (λ _. R₂)), (stay-none (λ _. R-Bench) yes, (stay-none (λ _. R-Event) yes, tt))))

@@ -1,4 +1,5 @@
--- `advance::ask` meets its contract: a walk of its MIR, by hand. Two calls in a row.
+-- Written by tools/walks/walkgen.py from ask.py beside it: change that.
+-- `advance::ask` meets its contract: a walk of its MIR. Two calls in a row.
 -- Assumes nothing.
 use mathlib.Core.Path.{_≡_, refl, ap, _∙_}
 use Prim.Native.Nat.{ℕ, _-_, _≤_}
@@ -42,17 +43,17 @@ use Rattle.advance.proofs.gather.asked_of.Symbol as asked-of-def
 use Rattle.advance.proofs.gather.asked_of.Symbol.{name as #advance·gather·asked-of}
 use Rattle.advance.proofs.gather.asked_of.Met as asked-of-thm
 use Rattle.advance.specs.Parts.{askedOf, askedIn}
-use Rattle.state.specs.declared.Bench.{Bench}
-use Rattle.state.specs.declared.Event.{Event}
-use Rattle.advance.specs.declared.Asked.{Asked}
-use Rattle.advance.proofs.Benches.{R as R-Bench, val as val-Bench, vals as vals-Bench, tells as tells-Bench, typed as typed-Bench}
-use Rattle.advance.proofs.Events.{R as R-Event, val as val-Event, vals as vals-Event, tells as tells-Event, typed as typed-Event}
-use Rattle.advance.proofs.Soughts.{typed as typed-Sought}
-use Rattle.advance.proofs.Askeds.{R as R-Asked, val as val-Asked, vals as vals-Asked, typed as typed-Asked, makes as makes-Asked}
 use Rattle.advance.proofs.ask.Key.{name as #advance·ask}
 use Rattle.advance.proofs.ask as ask
 use Rattle.advance.proofs.ask.Statement as stated
 use Rattle.advance.proofs.ask.Code as code
+use Rattle.advance.specs.declared.Asked.{Asked}
+use Rattle.advance.proofs.Askeds.{R as R-Asked, val as val-Asked, vals as vals-Asked, typed as typed-Asked, makes as makes-Asked}
+use Rattle.state.specs.declared.Bench.{Bench}
+use Rattle.advance.proofs.Benches.{R as R-Bench, val as val-Bench, vals as vals-Bench, tells as tells-Bench, typed as typed-Bench}
+use Rattle.state.specs.declared.Event.{Event}
+use Rattle.advance.proofs.Events.{R as R-Event, val as val-Event, vals as vals-Event, tells as tells-Event, typed as typed-Event}
+use Rattle.advance.proofs.Soughts.{typed as typed-Sought}
 
 abbrev stayed : Stays (ask.ended .signature .params) (ask.ended .kept)
 stayed = (stay-none-slice (0 ∷ []) tt (plain (λ _. R)) yes, (stay-none (λ _. R-Bench) yes, (stay-none (λ _. R-Event) yes, tt)))

@@ -1,4 +1,5 @@
--- `advance::carry` meets its contract: a walk of its MIR, by hand. Five calls in a row, over two tables.
+-- Written by tools/walks/walkgen.py from carry.py beside it: change that.
+-- `advance::carry` meets its contract: a walk of its MIR. Five calls in a row, over two tables.
 -- Assumes nothing.
 use mathlib.Core.Path.{_≡_, refl, sym, ap, subst, _∙_}
 use Prim.Native.Nat.{ℕ, _-_}
@@ -55,13 +56,13 @@ use Rattle.tables.proofs.put_row.Symbol as put-row-def
 use Rattle.tables.proofs.put_row.Symbol.{name as #tables·put-row}
 use Rattle.tables.proofs.put_row.Met as put-row-thm
 use Rattle.tables.specs.Tables.{copies, laidAt}
-use Rattle.advance.specs.declared.Work.{Work}
 use Rattle.advance.specs.Parts.{Sound, carriedMessages, carriedRows}
-use Rattle.advance.proofs.Works.{R as R-Work, val as val-Work, vals as vals-Work, tells as tells-Work, typed as typed-Work}
 use Rattle.advance.proofs.carry.Key.{name as #advance·carry}
 use Rattle.advance.proofs.carry as carry
 use Rattle.advance.proofs.carry.Statement as stated
 use Rattle.advance.proofs.carry.Code as code
+use Rattle.advance.specs.declared.Work.{Work}
+use Rattle.advance.proofs.Works.{R as R-Work, val as val-Work, vals as vals-Work, tells as tells-Work, typed as typed-Work}
 
 abbrev stayed : Stays (carry.ended .signature .params) (carry.ended .kept)
 stayed = (stay-slice (0 ∷ []) tt (plain (λ _. R)), (stay-slice (1 ∷ []) tt (plain (λ _. R₂)), (stay-none (λ _. R-Work) yes, tt)))

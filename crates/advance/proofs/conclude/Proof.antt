@@ -1,4 +1,5 @@
--- `advance::conclude` meets its contract: a walk of its MIR, by hand. Two calls in a row, over two tables.
+-- Written by tools/walks/walkgen.py from conclude.py beside it: change that.
+-- `advance::conclude` meets its contract: a walk of its MIR. Two calls in a row, over two tables.
 -- Assumes nothing.
 use mathlib.Core.Path.{_≡_, refl}
 use Prim.Native.Nat.{ℕ, _-_}
@@ -46,14 +47,14 @@ use Rattle.advance.proofs.plans.stepped_in.Symbol as stepped-in-def
 use Rattle.advance.proofs.plans.stepped_in.Symbol.{name as #advance·plans·stepped-in}
 use Rattle.advance.proofs.plans.stepped_in.Met as stepped-in-thm
 use Rattle.advance.specs.Parts.{Sound, carriedMessages, carriedRows}
-use Rattle.state.specs.declared.Stepped.{Stepped}
-use Rattle.advance.specs.declared.Work.{Work}
-use Rattle.advance.proofs.Works.{R as R-Work, val as val-Work, vals as vals-Work, tells as tells-Work, typed as typed-Work}
-use Rattle.advance.proofs.Steppeds.{R as R-Stepped, val as val-Stepped, vals as vals-Stepped, typed as typed-Stepped, makes as makes-Stepped}
 use Rattle.advance.proofs.conclude.Key.{name as #advance·conclude}
 use Rattle.advance.proofs.conclude as conclude
 use Rattle.advance.proofs.conclude.Statement as stated
 use Rattle.advance.proofs.conclude.Code as code
+use Rattle.state.specs.declared.Stepped.{Stepped}
+use Rattle.advance.proofs.Steppeds.{R as R-Stepped, val as val-Stepped, vals as vals-Stepped, typed as typed-Stepped, makes as makes-Stepped}
+use Rattle.advance.specs.declared.Work.{Work}
+use Rattle.advance.proofs.Works.{R as R-Work, val as val-Work, vals as vals-Work, tells as tells-Work, typed as typed-Work}
 
 abbrev stayed : Stays (conclude.ended .signature .params) (conclude.ended .kept)
 stayed = (stay-slice (0 ∷ []) tt (plain (λ _. R)), (stay-slice (1 ∷ []) tt (plain (λ _. R₂)), (stay-none (λ _. R-Work) yes, tt)))

@@ -1,4 +1,5 @@
--- `advance::cut_out` meets its contract: a walk of its MIR, by hand. The work is read part by part, and passed on.
+-- Written by tools/walks/walkgen.py from cut_out.py beside it: change that.
+-- `advance::cut_out` meets its contract: a walk of its MIR. The work is read part by part, and passed on.
 -- Assumes nothing.
 use mathlib.Core.Path.{_≡_, refl, sym, ap, subst, _∙_}
 use Prim.Native.Nat.{ℕ, _-_, _<_, _≤_}
@@ -48,13 +49,13 @@ use Rattle.advance.proofs.plans.flight_in.Met as flight-in-thm
 use Rattle.advance.proofs.drop_message.Symbol as drop-message-def
 use Rattle.advance.proofs.drop_message.Symbol.{name as #advance·drop-message}
 use Rattle.advance.proofs.drop_message.Met as drop-message-thm
-use Rattle.advance.specs.declared.Work.{Work}
 use Rattle.advance.specs.Parts.{Sound, droppedIf}
-use Rattle.advance.proofs.Works.{R as R-Work, val as val-Work, vals as vals-Work, tells as tells-Work, typed as typed-Work}
 use Rattle.advance.proofs.cut_out.Key.{name as #advance·cut-out}
 use Rattle.advance.proofs.cut_out as cut-out
 use Rattle.advance.proofs.cut_out.Statement as stated
 use Rattle.advance.proofs.cut_out.Code as code
+use Rattle.advance.specs.declared.Work.{Work}
+use Rattle.advance.proofs.Works.{R as R-Work, val as val-Work, vals as vals-Work, tells as tells-Work, typed as typed-Work}
 
 abbrev stayed : Stays (cut-out.ended .signature .params) (cut-out.ended .kept)
 stayed = (stay-slice (0 ∷ []) tt (plain (λ _. R)), (stay-none (λ _. R-Work) yes, tt))

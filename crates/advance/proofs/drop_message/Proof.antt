@@ -1,4 +1,5 @@
--- `advance::drop_message` meets its contract: a walk of its MIR, by hand. A branch with no `else`, whose arm ends in a call.
+-- Written by tools/walks/walkgen.py from drop_message.py beside it: change that.
+-- `advance::drop_message` meets its contract: a walk of its MIR. A branch with no `else`, whose arm ends in a call.
 -- Assumes nothing.
 use mathlib.Core.Path.{_≡_, refl, sym, ap}
 use Prim.Native.Nat.{ℕ, _+_, _-_, _<_, _≤_, _^_}

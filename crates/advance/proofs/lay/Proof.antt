@@ -1,4 +1,5 @@
--- `advance::lay` meets its contract: a walk of its MIR, by hand. The work is read part by part, and passed on.
+-- Written by tools/walks/walkgen.py from lay.py beside it: change that.
+-- `advance::lay` meets its contract: a walk of its MIR. The work is read part by part, and passed on.
 -- Assumes nothing.
 use mathlib.Core.Path.{_≡_, refl, sym, ap, subst, _∙_}
 use Prim.Native.Nat.{ℕ, _+_, _-_, _<_, _≤_}
@@ -50,13 +51,13 @@ use Rattle.tables.proofs.post.Symbol as post-def
 use Rattle.tables.proofs.post.Symbol.{name as #tables·post}
 use Rattle.tables.proofs.post.Met as post-thm
 use Rattle.tables.specs.Tables.{copies, laidAt}
-use Rattle.advance.specs.declared.Work.{Work}
 use Rattle.advance.specs.Parts.{Sound}
-use Rattle.advance.proofs.Works.{R as R-Work, val as val-Work, vals as vals-Work, tells as tells-Work, typed as typed-Work}
 use Rattle.advance.proofs.lay.Key.{name as #advance·lay}
 use Rattle.advance.proofs.lay as lay
 use Rattle.advance.proofs.lay.Statement as stated
 use Rattle.advance.proofs.lay.Code as code
+use Rattle.advance.specs.declared.Work.{Work}
+use Rattle.advance.proofs.Works.{R as R-Work, val as val-Work, vals as vals-Work, tells as tells-Work, typed as typed-Work}
 
 abbrev stayed : Stays (lay.ended .signature .params) (lay.ended .kept)
 stayed = (stay-slice (0 ∷ []) tt (plain (λ _. R)), (stay-none (λ _. R-Work) yes, tt))

@@ -1,4 +1,5 @@
--- `advance::learn` meets its contract: a walk of its MIR, by hand. Three calls in a row.
+-- Written by tools/walks/walkgen.py from learn.py beside it: change that.
+-- `advance::learn` meets its contract: a walk of its MIR. Three calls in a row.
 -- Assumes nothing.
 use mathlib.Core.Path.{_≡_, refl, ap, _∙_}
 use Prim.Native.Nat.{ℕ, _-_}
@@ -47,14 +48,14 @@ use Rattle.advance.proofs.gather.known_of.Met as known-of-thm
 use Rattle.tables.specs.Tables.{emptyRow}
 use Rattle.advance.proofs.Line.{typed as typed-Line}
 use Rattle.advance.specs.Parts.{knownOf}
-use Rattle.advance.specs.declared.Asked.{Asked}
-use Rattle.advance.specs.declared.Known.{Known}
-use Rattle.advance.proofs.Askeds.{R as R-Asked, val as val-Asked, vals as vals-Asked, tells as tells-Asked, typed as typed-Asked}
-use Rattle.advance.proofs.Knowns.{R as R-Known, val as val-Known, vals as vals-Known, typed as typed-Known, makes as makes-Known}
 use Rattle.advance.proofs.learn.Key.{name as #advance·learn}
 use Rattle.advance.proofs.learn as learn
 use Rattle.advance.proofs.learn.Statement as stated
 use Rattle.advance.proofs.learn.Code as code
+use Rattle.advance.specs.declared.Asked.{Asked}
+use Rattle.advance.proofs.Askeds.{R as R-Asked, val as val-Asked, vals as vals-Asked, tells as tells-Asked, typed as typed-Asked}
+use Rattle.advance.specs.declared.Known.{Known}
+use Rattle.advance.proofs.Knowns.{R as R-Known, val as val-Known, vals as vals-Known, typed as typed-Known, makes as makes-Known}
 
 abbrev stayed : Stays (learn.ended .signature .params) (learn.ended .kept)
 stayed = (stay-none-slice (0 ∷ []) tt (plain (λ _. R₂)) yes, (stay-none (λ _. R-Asked) yes, tt))

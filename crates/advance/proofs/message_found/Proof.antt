@@ -1,4 +1,5 @@
--- `advance::message_found` meets its contract: a walk of its MIR, by hand. A `let .. else`: the tag is known once `found` is told apart, and each arm is walked with it.
+-- Written by tools/walks/walkgen.py from message_found.py beside it: change that.
+-- `advance::message_found` meets its contract: a walk of its MIR. A `let .. else`: the tag is known once `found` is told apart, and each arm is walked with it.
 -- Assumes nothing.
 use mathlib.Core.Path.{_≡_, refl, sym, ap, subst}
 use Prim.Native.Nat.{ℕ, _-_, _<_, _^_}

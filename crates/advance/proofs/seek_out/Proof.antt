@@ -1,4 +1,5 @@
--- `advance::seek_out` meets its contract: a walk of its MIR, by hand. Three calls in a row.
+-- Written by tools/walks/walkgen.py from seek_out.py beside it: change that.
+-- `advance::seek_out` meets its contract: a walk of its MIR. Three calls in a row.
 -- Assumes nothing.
 use mathlib.Core.Path.{_≡_, refl, ap, _∙_}
 use Prim.Native.Nat.{ℕ, _-_, _<_, _≤_, _^_}

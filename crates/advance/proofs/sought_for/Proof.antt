@@ -1,4 +1,5 @@
--- `advance::sought_for` meets its contract: a walk of its MIR, by hand. Three calls in a row.
+-- Written by tools/walks/walkgen.py from sought_for.py beside it: change that.
+-- `advance::sought_for` meets its contract: a walk of its MIR. Three calls in a row.
 -- Assumes nothing.
 use mathlib.Core.Path.{_≡_, refl, sym, ap, subst, _∙_}
 use Prim.Native.Nat.{ℕ, _-_, _≤_}
@@ -44,17 +45,17 @@ use Rattle.advance.proofs.gather.wanted.Met as wanted-thm
 use Rattle.advance.proofs.seek_out.Symbol as seek-out-def
 use Rattle.advance.proofs.seek_out.Symbol.{name as #advance·seek-out}
 use Rattle.advance.proofs.seek_out.Met as seek-out-thm
-use Rattle.state.specs.declared.Bench.{Bench}
-use Rattle.state.specs.declared.Event.{Event}
-use Rattle.advance.specs.declared.Sought.{Sought}
 use Rattle.advance.specs.Parts.{wantedOf, soughtIn}
-use Rattle.advance.proofs.Benches.{R as R-Bench, val as val-Bench, vals as vals-Bench, tells as tells-Bench, typed as typed-Bench}
-use Rattle.advance.proofs.Events.{R as R-Event, val as val-Event, vals as vals-Event, tells as tells-Event, typed as typed-Event}
-use Rattle.advance.proofs.Soughts.{R as R-Sought, val as val-Sought, vals as vals-Sought, typed as typed-Sought, makes as makes-Sought}
 use Rattle.advance.proofs.sought_for.Key.{name as #advance·sought-for}
 use Rattle.advance.proofs.sought_for as sought-for
 use Rattle.advance.proofs.sought_for.Statement as stated
 use Rattle.advance.proofs.sought_for.Code as code
+use Rattle.state.specs.declared.Bench.{Bench}
+use Rattle.advance.proofs.Benches.{R as R-Bench, val as val-Bench, vals as vals-Bench, tells as tells-Bench, typed as typed-Bench}
+use Rattle.state.specs.declared.Event.{Event}
+use Rattle.advance.proofs.Events.{R as R-Event, val as val-Event, vals as vals-Event, tells as tells-Event, typed as typed-Event}
+use Rattle.advance.specs.declared.Sought.{Sought}
+use Rattle.advance.proofs.Soughts.{R as R-Sought, val as val-Sought, vals as vals-Sought, typed as typed-Sought, makes as makes-Sought}
 
 abbrev stayed : Stays (sought-for.ended .signature .params) (sought-for.ended .kept)
 stayed = (stay-none-slice (0 ∷ []) tt (plain (λ _. R)) yes, (stay-none (λ _. R-Bench) yes, (stay-none (λ _. R-Event) yes, tt)))

@@ -1,4 +1,5 @@
--- `judge::is_tabled` meets its contract: a walk of its MIR, by hand. A straight line: both tables are gone through, and what was seen is judged.
+-- Written by tools/walks/walkgen.py from is_tabled.py beside it: change that.
+-- `judge::is_tabled` meets its contract: a walk of its MIR. A straight line: both tables are gone through, and what was seen is judged.
 -- Assumes nothing.
 use mathlib.Core.Path.{_≡_, refl}
 use Prim.Native.Nat.{ℕ, _-_, _<_, _^_}
@@ -37,8 +38,6 @@ use Rattle.tables.specs.declared.Row.{Row}
 use Rattle.tables.proofs.Messages.{R}
 use Rattle.tables.proofs.Rows.{R as R₂}
 use Rattle.tables.proofs.Calls.{Shr, slice}
-use Rattle.tables.proofs.MessageCalls.{}
-use Rattle.tables.proofs.RowCalls.{}
 use Rattle.judge.proofs.Callees.{LimitsOf, ScanMessages, ScanRows, Judge, calls-limits-of, calls-scan-messages, calls-scan-rows, calls-judge}
 use Rattle.state.specs.declared.Bench.{Bench}
 use Rattle.state.proofs.OfBench.{R as RBench, val as valBench, vals as valsBench, tells as tellsBench, typed as typedBench}
@@ -117,7 +116,7 @@ module _ {M : Type 1} (𝓤 : URA M) (H : Heap 𝓤) (A : Atoms 𝓤) (W : Given
         qed W ((‵ (flft κ₀ q₀) ⊛ (‵ (flft κ₁ q₁) ⊛ ‵ ftrue)) ∷ ‵ (owns (RBench ∷ ShrSlice (named 0) κ₀ R ∷ ShrSlice (named 1) κ₁ R₂ ∷ []) a at) ∷ []) ∵ enter ! C Λ code.function (valBench b ∷ sliceVal (b₀, o₀) n₀ ∷ sliceVal (b₁, o₁) n₁ ∷ []) _ $
         alloc1 ! (λ l₀. alloc1 ! (λ l₁. alloc1 ! (λ l₂. alloc1 ! (λ l₃. alloc1 ! (λ l₄. alloc1 ! (λ l₅. alloc1 ! (λ l₆. alloc0 ! $ params1 ! $
         pass1 ! (init ! 10 refl (typedBench 𝓤 H A W b gb)) $ pass1 ! (init ! 8 refl (tt, (tt, (record { fits = gn₀ .0 }, tt)))) $ pass1 ! (init ! 6 refl (tt, (tt, (record { fits = gn₁ .0 }, tt)))) $ pass0 ! $
-        move ! (15 ∷ 14 ∷ []) $ fsplit ! $ move ! (1 ∷ []) $ fsplit ! $ move ! (1 ∷ []) $ fsplit ! $ move ! (4 ∷ []) $ split ! $ move ! (1 ∷ []) $ split ! $ move ! (6 ∷ 4 ∷ []) $ fjoin ! $ move ! (5 ∷ 3 ∷ 4 ∷ 1 ∷ 2 ∷ 0 ∷ []) $
+        move ! (15 ∷ 14 ∷ []) $ fsplit ! $ move ! (1 ∷ []) $ fsplit ! $ move ! (1 ∷ []) $ fsplit ! $ move ! (3 ∷ 1 ∷ []) $ fjoin ! $ move ! (3 ∷ []) $ split ! $ move ! (1 ∷ []) $ split ! $ move ! (5 ∷ 2 ∷ 4 ∷ []) $
         -- [the first slice; its token; the second; its token; true; what the others own; _6 (6); …; _5 (8); …; _4 (10); …; _3 (12); …; _2 (14); …; _1 (16); …; _0 (18); …]
         calls-limits-of ! fm mem run limits-of-known b gb (λ P. and-then ! (load ! (from ! (stop !)) (look ! 17 refl)) (no-more !)) (λ il.
         land ! (from ! (stop !)) (init ! 10 refl (typedLimits 𝓤 H A W (limitsOf b) il)) $

@@ -1,4 +1,5 @@
--- `judge::scan_messages` meets its contract: a walk of its MIR, by hand. A loop that carries what was seen: what a turn begins with is what is still to be seen.
+-- Written by tools/walks/walkgen.py from scan_messages.py beside it: change that.
+-- `judge::scan_messages` meets its contract: a walk of its MIR. A loop that carries what was seen: what a turn begins with is what is still to be seen.
 -- Assumes nothing.
 use mathlib.Core.Path.{_≡_, refl, sym, ap, _∙_}
 use Prim.Native.Nat.{ℕ, _+_, _-_, _<_, _≤_, _^_}
@@ -40,7 +41,6 @@ use Rattle.words.specs.declared.Message.{Message}
 use Rattle.tables.proofs.Messages.{R, typed}
 use Rattle.tables.proofs.Calls.{Shr, slice}
 use Rattle.tables.proofs.MessageCalls.{MessageCount, MessageAt, calls-message-count-ref, calls-message-at-ref}
-use Rattle.tables.proofs.RowCalls.{}
 use Rattle.judge.proofs.Callees.{StartMessages, ScanMessage, calls-start-messages, calls-scan-message}
 use Rattle.judge.specs.declared.Limits.{Limits}
 use Rattle.judge.proofs.OfLimits.{R as RLimits, val as valLimits, vals as valsLimits, tells as tellsLimits, typed as typedLimits}
@@ -108,7 +108,7 @@ module _ {M : Type 1} (𝓤 : URA M) (H : Heap 𝓤) (A : Atoms 𝓤) (W : Given
         qed W ((‵ (flft κ q) ⊛ ‵ ftrue) ∷ ‵ (owns (ShrSlice (named 0) κ R ∷ u16 ∷ RLimits ∷ []) a at) ∷ []) ∵ enter ! (𝓣 .C) (𝓣 .Λ) code.function (sliceVal (b, o) n ∷ vint w16 f ∷ valLimits l ∷ []) _ $
         alloc1 ! (λ l₀. alloc1 ! (λ l₁. alloc1 ! (λ l₂. alloc1 ! (λ l₃. alloc1 ! (λ l₄. alloc1 ! (λ l₅. alloc1 ! (λ l₆. alloc1 ! (λ l₇. alloc1 ! (λ l₈. alloc0 ! $ params1 ! $
         pass1 ! (init ! 14 refl (tt, (tt, (record { fits = gn .0 }, tt)))) $ pass1 ! (init ! 12 refl (tt, record { fits = gf })) $ pass1 ! (init ! 10 refl (typedLimits 𝓤 H A W l gl)) $ pass0 ! $
-        move ! (19 ∷ 18 ∷ []) $ fsplit ! $ move ! (2 ∷ []) $ split ! $ move ! (2 ∷ 0 ∷ []) $
+        move ! (19 ∷ 18 ∷ []) $ fsplit ! $ move ! (2 ∷ []) $ split ! $ move ! (2 ∷ []) $
         -- [t's slice; the token; true; what the others own; _8 (4); …; _7 (6); …; _6 (8); …; _5 (10); …; _4 (12); …; _3 (14); …; _2 (16); …; _1 (18); …; _0 (20); …]
         calls-message-count-ref ! fm mem run message-count-known b o n ys (λ P L. and-then ! (load ! (from ! (stop !)) (look ! 18 refl)) (no-more !)) (λ g.
         land ! (from ! (stop !)) (init ! 12 refl (tt, record { fits = g })) $

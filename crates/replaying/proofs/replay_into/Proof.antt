@@ -1,4 +1,5 @@
--- `replaying::replay_into` meets its contract: a walk of its MIR, by hand. A local table of rows is lent to the run; then it is shared, and so is the listing once it is filled, until the report is written. While the table is lent, its slice and token stand where the entries that say nothing were, and what a slice keeps while it is shared shares an entry with the bytes, so that every local keeps its place.
+-- Written by tools/walks/walkgen.py from replay_into.py beside it: change that.
+-- `replaying::replay_into` meets its contract: a walk of its MIR. A local table of rows is lent to the run; then it is shared, and so is the listing once it is filled, until the report is written. While the table is lent, its slice and token stand where the entries that say nothing were, and what a slice keeps while it is shared shares an entry with the bytes, so that every local keeps its place.
 -- Assumes nothing.
 use mathlib.Core.Path.{_≡_, refl, sym, subst, _∙_}
 use Prim.Native.Nat.{ℕ, _+_, _-_, _<_, _≤_, _^_}
@@ -215,7 +216,7 @@ module _ {M : Type 1} (𝓤 : URA M) (H : Heap 𝓤) (A : Atoms 𝓤) (W : Given
 module _ {M : Type 1} (𝓤 : URA M) (H : Heap 𝓤) (A : Atoms 𝓤) (W : Given 𝓤 H A) (mem : Memory → SProp 𝓤) (run : Routine → Fun 𝓤) where
   replay-into-walks : (C : Calls 𝓤 H) (Λ : Loops 𝓤 H) → FmC 𝓤 H (W .laws) C → Triple 𝓤 (C #tables·empty-row) (EmptyRow 𝓤 H A mem run) → Triple 𝓤 (C #replaying·run-history) (RunHistory 𝓤 H A mem run) → Triple 𝓤 (C #replaying·parts·refusal-of) (RefusalOfs 𝓤 H A mem run) → Triple 𝓤 (C #replaying·parts·is-begun) (IsBeguns 𝓤 H A mem run) → Triple 𝓤 (C #replaying·parts·bench-of) (BenchOfs 𝓤 H A mem run) → Triple 𝓤 (C #replaying·parts·rows-of) (RowsOfs 𝓤 H A mem run) → Triple 𝓤 (C #order·fill-order) (FillOrder 𝓤 H A mem run) → Triple 𝓤 (C #report·put-report) (PutReport 𝓤 H A mem run) → Triple 𝓤 (C #text·lines·put-refusal) (PutRefusal 𝓤 H A mem run) → Walks 𝓤 H A replay-into.ended stayed (WpFn 𝓤 H C Λ code.function) (replay-into.clauses 𝓤 H A mem run)
   replay-into-walks C Λ fm k₀ k₁ k₂ k₃ k₄ k₅ k₆ k₇ k₈ = walked 𝓤 H A replay-into.ended stayed (replay-into.clauses 𝓤 H A mem run) (WpFn 𝓤 H C Λ code.function) (λ κs. (slice-vals, (slice-vals, (slice-vals, tt)))) (λ κs. (mut-slice-tells (named 0) (κs .0) u8, (mut-slice-tells (named 1) (κs .1 .0) u16, (shr-slice-tells (named 2) (κs .1 .1 .0) u8, tt))))
-      (λ κs qs bounds a g are. needs 𝓤 ((81563 ≤ length (now (a .0))) × (length (now (a .1 .0)) ≡ 1024)) _ (λ l.
+      (λ κs qs bounds a g are. needs 𝓤 ((81563 ≤ (length (now (a .0)))) × ((length (now (a .1 .0))) ≡ 1024)) _ (λ l.
       walk 𝓤 H A W mem run (κs .0) (κs .1 .0) (κs .1 .1 .0) (qs .0) (qs .1 .0) (qs .1 .1 .0) (a .0 .ptr .0) (a .0 .ptr .1) (a .1 .0 .ptr .0) (a .1 .0 .ptr .1) (a .1 .1 .0 .ptr .0) (a .1 .1 .0 .ptr .1) (a .0 .name) (a .1 .0 .name) (a .1 .1 .0 .name) (a .0 .now) (a .1 .0 .now) (a .1 .1 .0 .now) C Λ fm k₀ k₁ k₂ k₃ k₄ k₅ k₆ k₇ k₈ (are .0 .0 .1) (are .1 .0 .0 .1) (are .1 .1 .0 .0 .1) (l .0) (l .1)))
 
 replay-into-meets : {M : Type 1} (𝓤 : URA M) (H : Heap 𝓤) (A : Atoms 𝓤) → Given 𝓤 H A → (mem : Memory → SProp 𝓤) (run : Routine → Fun 𝓤) (𝓣 : Tables 𝓤 H) → Triple 𝓤 (𝓣 .C #tables·empty-row) (EmptyRow 𝓤 H A mem run) → Triple 𝓤 (𝓣 .C #replaying·run-history) (RunHistory 𝓤 H A mem run) → Triple 𝓤 (𝓣 .C #replaying·parts·refusal-of) (RefusalOfs 𝓤 H A mem run) → Triple 𝓤 (𝓣 .C #replaying·parts·is-begun) (IsBeguns 𝓤 H A mem run) → Triple 𝓤 (𝓣 .C #replaying·parts·bench-of) (BenchOfs 𝓤 H A mem run) → Triple 𝓤 (𝓣 .C #replaying·parts·rows-of) (RowsOfs 𝓤 H A mem run) → Triple 𝓤 (𝓣 .C #order·fill-order) (FillOrder 𝓤 H A mem run) → Triple 𝓤 (𝓣 .C #report·put-report) (PutReport 𝓤 H A mem run) → Triple 𝓤 (𝓣 .C #text·lines·put-refusal) (PutRefusal 𝓤 H A mem run) → Meets 𝓤 H A replay-into.signature (WpFn 𝓤 H (𝓣 .C) (𝓣 .Λ) code.function) (replay-into.spec 𝓤 H A mem run)

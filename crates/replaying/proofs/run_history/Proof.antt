@@ -1,4 +1,5 @@
--- `replaying::run_history` meets its contract: a walk of its MIR, by hand. A local table of messages is lent to the one call, and is taken back before the function returns.
+-- Written by tools/walks/walkgen.py from run_history.py beside it: change that.
+-- `replaying::run_history` meets its contract: a walk of its MIR. A local table of messages is lent to the one call, and is taken back before the function returns.
 -- Assumes nothing.
 use mathlib.Core.Path.{_≡_, refl}
 use Prim.Native.Nat.{ℕ, _-_, _<_}

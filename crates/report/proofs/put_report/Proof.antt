@@ -1,4 +1,5 @@
--- `report::put_report` meets its contract: a walk of its MIR, by hand. A straight line: three texts one after another.
+-- Written by tools/walks/walkgen.py from put_report.py beside it: change that.
+-- `report::put_report` meets its contract: a walk of its MIR. A straight line: three texts one after another.
 -- Assumes nothing.
 use mathlib.Core.Path.{_≡_, refl}
 use Prim.Native.Nat.{ℕ, _+_, _-_, _<_, _≤_, _^_}
@@ -155,7 +156,7 @@ module _ {M : Type 1} (𝓤 : URA M) (H : Heap 𝓤) (A : Atoms 𝓤) (W : Given
 module _ {M : Type 1} (𝓤 : URA M) (H : Heap 𝓤) (A : Atoms 𝓤) (W : Given 𝓤 H A) (mem : Memory → SProp 𝓤) (run : Routine → Fun 𝓤) where
   put-report-walks : (C : Calls 𝓤 H) (Λ : Loops 𝓤 H) → FmC 𝓤 H (W .laws) C → Triple 𝓤 (C #text·lines·put-run-line) (PutRunLine 𝓤 H A mem run) → Triple 𝓤 (C #report·put-rows) (PutRows 𝓤 H A mem run) → Triple 𝓤 (C #text·tail·put-tail) (PutTail 𝓤 H A mem run) → Walks 𝓤 H A put-report.ended stayed (WpFn 𝓤 H C Λ code.function) (put-report.clauses 𝓤 H A mem run)
   put-report-walks C Λ fm k₀ k₁ k₂ = walked 𝓤 H A put-report.ended stayed (put-report.clauses 𝓤 H A mem run) (WpFn 𝓤 H C Λ code.function) (λ κs. (slice-vals, (valsBench, (uint-vals w8, (slice-vals, (slice-vals, (uint-vals w64, tt))))))) (λ κs. (mut-slice-tells (named 0) (κs .0) u8, (tellsBench, (uint-tells w8, (shr-slice-tells (named 1) (κs .1 .0) R₂, (shr-slice-tells (named 2) (κs .1 .1 .0) u16, (uint-tells w64, tt)))))))
-      (λ κs qs bounds a g are. needs 𝓤 ((81563 ≤ length (now (a .0))) × ((a .1 .0 .n ≤ 7) × ((a .1 .0 .m ≤ 16) × ((a .1 .0 .rows ≤ length (now (a .1 .1 .1 .0))) × ((a .1 .0 .rows ≤ 1024) × ((a .1 .1 .1 .1 .1 .0 ≤ length (now (a .1 .1 .1 .1 .0))) × (a .1 .1 .1 .1 .1 .0 ≤ 1024))))))) _ (λ l.
+      (λ κs qs bounds a g are. needs 𝓤 ((81563 ≤ (length (now (a .0)))) × (((a .1 .0) .n ≤ 7) × (((a .1 .0) .m ≤ 16) × (((a .1 .0) .rows ≤ (length (now (a .1 .1 .1 .0)))) × (((a .1 .0) .rows ≤ 1024) × (((a .1 .1 .1 .1 .1 .0) ≤ (length (now (a .1 .1 .1 .1 .0)))) × ((a .1 .1 .1 .1 .1 .0) ≤ 1024))))))) _ (λ l.
       walk 𝓤 H A W mem run (κs .0) (κs .1 .0) (κs .1 .1 .0) (qs .0) (qs .1 .0) (qs .1 .1 .0) (a .0 .ptr .0) (a .0 .ptr .1) (a .1 .1 .1 .0 .ptr .0) (a .1 .1 .1 .0 .ptr .1) (a .1 .1 .1 .1 .0 .ptr .0) (a .1 .1 .1 .1 .0 .ptr .1) (a .0 .name) (a .1 .1 .1 .0 .name) (a .1 .1 .1 .1 .0 .name) (a .0 .now) (a .1 .1 .1 .0 .now) (a .1 .1 .1 .1 .0 .now) (a .1 .0) (a .1 .1 .0) (a .1 .1 .1 .1 .1 .0) C Λ fm k₀ k₁ k₂ (are .0 .0 .1) (are .1 .1 .1 .0 .0 .1) (are .1 .1 .1 .1 .0 .0 .1) (are .1 .0) (are .1 .1 .0 .1) (are .1 .1 .1 .1 .1 .0 .1) (l .0) (l .1 .0) (l .1 .1 .0) (l .1 .1 .1 .0) (l .1 .1 .1 .1 .0) (l .1 .1 .1 .1 .1 .0) (l .1 .1 .1 .1 .1 .1)))
 
 put-report-meets : {M : Type 1} (𝓤 : URA M) (H : Heap 𝓤) (A : Atoms 𝓤) → Given 𝓤 H A → (mem : Memory → SProp 𝓤) (run : Routine → Fun 𝓤) (𝓣 : Tables 𝓤 H) → Triple 𝓤 (𝓣 .C #text·lines·put-run-line) (PutRunLine 𝓤 H A mem run) → Triple 𝓤 (𝓣 .C #report·put-rows) (PutRows 𝓤 H A mem run) → Triple 𝓤 (𝓣 .C #text·tail·put-tail) (PutTail 𝓤 H A mem run) → Meets 𝓤 H A put-report.signature (WpFn 𝓤 H (𝓣 .C) (𝓣 .Λ) code.function) (put-report.spec 𝓤 H A mem run)

@@ -1,4 +1,5 @@
--- `report::put_rows` meets its contract: a walk of its MIR, by hand. A loop that writes a buffer and reads a table: what a turn begins with is what was written.
+-- Written by tools/walks/walkgen.py from put_rows.py beside it: change that.
+-- `report::put_rows` meets its contract: a walk of its MIR. A loop that writes a buffer and reads a table: what a turn begins with is what was written.
 -- Assumes nothing.
 use mathlib.Core.Path.{_≡_, refl, ap}
 use Prim.Native.Nat.{ℕ, _+_, _-_, _<_, _≤_, _^_}
@@ -160,7 +161,7 @@ module _ {M : Type 1} (𝓤 : URA M) (H : Heap 𝓤) (A : Atoms 𝓤) (W : Given
 module _ {M : Type 1} (𝓤 : URA M) (H : Heap 𝓤) (A : Atoms 𝓤) (W : Given 𝓤 H A) (mem : Memory → SProp 𝓤) (run : Routine → Fun 𝓤) where
   put-rows-walks : (𝓣 : Tables 𝓤 H) → FmC 𝓤 H (W .laws) (𝓣 .C) → Triple 𝓤 (𝓣 .C #tables·row-at) (RowAt 𝓤 H A mem run) → Triple 𝓤 (𝓣 .C #text·rows·put-row-line) (PutRowLine 𝓤 H A mem run) → Walks 𝓤 H A put-rows.ended stayed (WpFn 𝓤 H (𝓣 .C) (𝓣 .Λ) code.function) (put-rows.clauses 𝓤 H A mem run)
   put-rows-walks 𝓣 fm k₀ k₁ = walked 𝓤 H A put-rows.ended stayed (put-rows.clauses 𝓤 H A mem run) (WpFn 𝓤 H (𝓣 .C) (𝓣 .Λ) code.function) (λ κs. (slice-vals, (uint-vals w64, (slice-vals, (uint-vals w16, tt))))) (λ κs. (mut-slice-tells (named 0) (κs .0) u8, (uint-tells w64, (shr-slice-tells (named 1) (κs .1 .0) R₂, (uint-tells w16, tt)))))
-      (λ κs qs bounds a g are. needs 𝓤 ((a .1 .0 + 68 * a .1 .1 .1 .0 ≤ length (now (a .0))) × ((a .1 .1 .1 .0 ≤ length (now (a .1 .1 .0))) × (a .1 .1 .1 .0 ≤ 1024))) _ (λ l.
+      (λ κs qs bounds a g are. needs 𝓤 (((a .1 .0) + 68 * (a .1 .1 .1 .0) ≤ (length (now (a .0)))) × (((a .1 .1 .1 .0) ≤ (length (now (a .1 .1 .0)))) × ((a .1 .1 .1 .0) ≤ 1024))) _ (λ l.
       walk 𝓤 H A W mem run (κs .0) (κs .1 .0) (qs .0) (qs .1 .0) (a .0 .ptr .0) (a .0 .ptr .1) (a .1 .1 .0 .ptr .0) (a .1 .1 .0 .ptr .1) (a .0 .name) (a .1 .1 .0 .name) (a .0 .now) (a .1 .1 .0 .now) (a .1 .0) (a .1 .1 .1 .0) 𝓣 fm k₀ k₁ (are .0 .0 .1) (are .1 .1 .0 .0 .1) (are .1 .0 .1) (are .1 .1 .1 .0 .1) (l .0) (l .1 .0) (l .1 .1)))
 
 put-rows-meets : {M : Type 1} (𝓤 : URA M) (H : Heap 𝓤) (A : Atoms 𝓤) → Given 𝓤 H A → (mem : Memory → SProp 𝓤) (run : Routine → Fun 𝓤) (𝓣 : Tables 𝓤 H) → Triple 𝓤 (𝓣 .C #tables·row-at) (RowAt 𝓤 H A mem run) → Triple 𝓤 (𝓣 .C #text·rows·put-row-line) (PutRowLine 𝓤 H A mem run) → Meets 𝓤 H A put-rows.signature (WpFn 𝓤 H (𝓣 .C) (𝓣 .Λ) code.function) (put-rows.spec 𝓤 H A mem run)

@@ -1,4 +1,5 @@
--- `schedule::run` meets its contract: a walk of its MIR, by hand. The file opens or not; where it opens, both tables are emptied and its events are run.
+-- Written by tools/walks/walkgen.py from run.py beside it: change that.
+-- `schedule::run` meets its contract: a walk of its MIR. The file opens or not; where it opens, both tables are emptied and its events are run.
 -- Assumes nothing.
 use mathlib.Core.Path.{_≡_, refl, sym, _∙_}
 use Prim.Native.Nat.{ℕ, _-_, _<_}

@@ -1,4 +1,5 @@
--- `tables::clear_messages` meets its contract: a walk of its MIR, by hand. A loop: each turn empties one place, and what a turn begins with is what is still to be laid.
+-- Written by tools/walks/walkgen.py from clear_messages.py beside it: change that.
+-- `tables::clear_messages` meets its contract: a walk of its MIR. A loop: each turn empties one place, and what a turn begins with is what is still to be laid.
 -- Assumes nothing.
 use mathlib.Core.Path.{_≡_, refl, sym, _∙_}
 use Prim.Native.Nat.{ℕ, zero, suc, _+_, _-_, _<_, _≤_}
@@ -36,7 +37,6 @@ use Rattle.words.specs.declared.Message.{Message}
 use Rattle.tables.proofs.Messages.{R, typed}
 use Rattle.tables.proofs.Calls.{Mut, slice}
 use Rattle.tables.proofs.MessageCalls.{EmptyMessage, PutMessage, calls-empty-message, calls-put-message}
-use Rattle.tables.proofs.RowCalls.{}
 use Rattle.tables.proofs.empty_message.Symbol as empty-message-def
 use Rattle.tables.proofs.empty_message.Symbol.{name as #tables·empty-message}
 use Rattle.tables.proofs.empty_message.Met as empty-message-thm
@@ -102,7 +102,7 @@ module _ {M : Type 1} (𝓤 : URA M) (H : Heap 𝓤) (A : Atoms 𝓤) (W : Given
         qed W ((‵ (flft κ q) ⊛ ‵ ftrue) ∷ ‵ (owns (MutSlice (named 0) κ R ∷ []) a at) ∷ []) ∵ enter ! (𝓣 .C) (𝓣 .Λ) code.function (sliceVal (b, o) n ∷ []) _ $
         alloc1 ! (λ l₀. alloc1 ! (λ l₁. alloc1 ! (λ l₂. alloc1 ! (λ l₃. alloc1 ! (λ l₄. alloc1 ! (λ l₅. alloc1 ! (λ l₆. alloc1 ! (λ l₇. alloc1 ! (λ l₈. alloc0 ! $ params1 ! $
         pass1 ! (init ! 14 refl (tt, (tt, (record { fits = gn .0 }, tt)))) $ pass0 ! $
-        move ! (19 ∷ 18 ∷ []) $ fsplit ! $ move ! (2 ∷ []) $ split ! $ move ! (2 ∷ 0 ∷ []) $
+        move ! (19 ∷ 18 ∷ []) $ fsplit ! $ move ! (2 ∷ []) $ split ! $ move ! (2 ∷ []) $
         -- [t's slice; the token; true; what the others own; _8 (4); …; _7 (6); …; _6 (8); …; _5 (10); …; _4 (12); …; _3 (14); …; _2 (16); …; _1 (18); …; _0 (20); …]
         assigns ! (of-opd ! (load ! (from ! (fld ! refl (stop !))) (look-in ! 18 (sub ! 1 refl (whole !))))) (from ! (stop !)) (init ! 16 refl (tt, record { fits = gn .0 })) $
         assigns ! (of-opd ! (lit ! tt)) (from ! (stop !)) (init ! 14 refl (tt, record { fits = lit< tt })) $

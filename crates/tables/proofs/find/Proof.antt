@@ -1,4 +1,5 @@
--- `tables::find` meets its contract: a walk of its MIR, by hand. A loop with a `return` inside it: what a turn begins with is what is still to be sought.
+-- Written by tools/walks/walkgen.py from find.py beside it: change that.
+-- `tables::find` meets its contract: a walk of its MIR. A loop with a `return` inside it: what a turn begins with is what is still to be sought.
 -- Assumes nothing.
 use mathlib.Core.Path.{_≡_, refl, sym, _∙_}
 use Prim.Native.Nat.{ℕ, _+_, _-_, _<_, _≤_, _^_}
@@ -40,7 +41,6 @@ use Rattle.words.specs.declared.Message.{Message}
 use Rattle.tables.proofs.Messages.{R, val, vals, typed, makes}
 use Rattle.tables.proofs.Calls.{Shr, slice}
 use Rattle.tables.proofs.MessageCalls.{MessageAt, calls-message-at-ref}
-use Rattle.tables.proofs.RowCalls.{}
 use Rattle.tables.proofs.message_at.Symbol as message-at-def
 use Rattle.tables.proofs.message_at.Symbol.{name as #tables·message-at}
 use Rattle.tables.proofs.message_at.Met as message-at-thm
@@ -102,7 +102,7 @@ module _ {M : Type 1} (𝓤 : URA M) (H : Heap 𝓤) (A : Atoms 𝓤) (W : Given
         qed W ((‵ (flft κ q) ⊛ ‵ ftrue) ∷ ‵ (owns (ShrSlice (named 0) κ R ∷ usize ∷ u32 ∷ []) a at) ∷ []) ∵ enter ! (𝓣 .C) (𝓣 .Λ) code.function (sliceVal (b, o) n ∷ vint w64 c ∷ vint w32 k ∷ []) _ $
         alloc1 ! (λ l₀. alloc1 ! (λ l₁. alloc1 ! (λ l₂. alloc1 ! (λ l₃. alloc1 ! (λ l₄. alloc1 ! (λ l₅. alloc1 ! (λ l₆. alloc0 ! $ params1 ! $
         pass1 ! (init ! 10 refl (tt, (tt, (record { fits = gn .0 }, tt)))) $ pass1 ! (init ! 8 refl (tt, record { fits = gc })) $ pass1 ! (init ! 6 refl (tt, record { fits = gk })) $ pass0 ! $
-        move ! (15 ∷ 14 ∷ []) $ fsplit ! $ move ! (2 ∷ []) $ split ! $ move ! (2 ∷ 0 ∷ []) $
+        move ! (15 ∷ 14 ∷ []) $ fsplit ! $ move ! (2 ∷ []) $ split ! $ move ! (2 ∷ []) $
         -- [t's slice; the token; true; what the others own; _6 (4); …; _5 (6); …; _4 (8); …; _3 (10); …; _2 (12); …; _1 (14); …; _0 (16); …]
         assigns ! (of-opd ! (lit ! tt)) (from ! (stop !)) (init ! 8 refl (tt, record { fits = lit< tt })) $
         move ! (0 ∷ 8 ∷ []) $
@@ -132,7 +132,7 @@ module _ {M : Type 1} (𝓤 : URA M) (H : Heap 𝓤) (A : Atoms 𝓤) (W : Given
 module _ {M : Type 1} (𝓤 : URA M) (H : Heap 𝓤) (A : Atoms 𝓤) (W : Given 𝓤 H A) (mem : Memory → SProp 𝓤) (run : Routine → Fun 𝓤) where
   find-walks : (𝓣 : Tables 𝓤 H) → FmC 𝓤 H (W .laws) (𝓣 .C) → Triple 𝓤 (𝓣 .C #tables·message-at) (MessageAt 𝓤 H A mem run) → Walks 𝓤 H A find.ended stayed (WpFn 𝓤 H (𝓣 .C) (𝓣 .Λ) code.function) (find.clauses 𝓤 H A mem run)
   find-walks 𝓣 fm k₀ = walked 𝓤 H A find.ended stayed (find.clauses 𝓤 H A mem run) (WpFn 𝓤 H (𝓣 .C) (𝓣 .Λ) code.function) (λ κs. (slice-vals, (uint-vals w64, (uint-vals w32, tt)))) (λ κs. (shr-slice-tells (named 0) (κs .0) R, (uint-tells w64, (uint-tells w32, tt))))
-      (λ κs qs bounds a g are. needs 𝓤 (a .1 .0 ≤ length (now (a .0))) _ (λ l.
+      (λ κs qs bounds a g are. needs 𝓤 ((a .1 .0) ≤ (length (now (a .0)))) _ (λ l.
       walk 𝓤 H A W mem run (κs .0) (qs .0) (a .0 .ptr .0) (a .0 .ptr .1) (a .0 .name) (a .0 .now) (a .1 .0) (a .1 .1 .0) 𝓣 fm k₀ (are .0 .0 .1) (are .1 .0 .1) (are .1 .1 .0 .1) (l)))
 
 find-meets : {M : Type 1} (𝓤 : URA M) (H : Heap 𝓤) (A : Atoms 𝓤) → Given 𝓤 H A → (mem : Memory → SProp 𝓤) (run : Routine → Fun 𝓤) (𝓣 : Tables 𝓤 H) → Triple 𝓤 (𝓣 .C #tables·message-at) (MessageAt 𝓤 H A mem run) → Meets 𝓤 H A find.signature (WpFn 𝓤 H (𝓣 .C) (𝓣 .Λ) code.function) (find.spec 𝓤 H A mem run)

@@ -1,4 +1,5 @@
--- `tables::message_at` meets its contract: a walk of its MIR, by hand. A branch that returns; past the end the rest is walked.
+-- Written by tools/walks/walkgen.py from message_at.py beside it: change that.
+-- `tables::message_at` meets its contract: a walk of its MIR. A branch that returns; past the end the rest is walked.
 -- Assumes nothing.
 use mathlib.Core.Path.{_≡_, refl, sym}
 use Prim.Native.Nat.{ℕ, _-_, _<_, _^_}
@@ -39,7 +40,6 @@ use Rattle.words.specs.declared.Message.{Message}
 use Rattle.tables.proofs.Messages.{R, val, vals, typed, makes}
 use Rattle.tables.proofs.Calls.{Shr, slice}
 use Rattle.tables.proofs.MessageCalls.{ReadMessage, EmptyMessage, calls-read-message-ref, calls-empty-message}
-use Rattle.tables.proofs.RowCalls.{}
 use Rattle.tables.proofs.read_message.Symbol as read-message-def
 use Rattle.tables.proofs.read_message.Symbol.{name as #tables·read-message}
 use Rattle.tables.proofs.read_message.Met as read-message-thm
@@ -82,7 +82,7 @@ module _ {M : Type 1} (𝓤 : URA M) (H : Heap 𝓤) (A : Atoms 𝓤) (W : Given
         qed W ((‵ (flft κ q) ⊛ ‵ ftrue) ∷ ‵ (owns (ShrSlice (named 0) κ R ∷ usize ∷ []) a at) ∷ []) ∵ enter ! C Λ code.function (sliceVal (b, o) n ∷ vint w64 i ∷ []) _ $
         alloc1 ! (λ l₀. alloc1 ! (λ l₁. alloc1 ! (λ l₂. alloc1 ! (λ l₃. alloc1 ! (λ l₄. alloc0 ! $ params1 ! $
         pass1 ! (init ! 6 refl (tt, (tt, (record { fits = gn .0 }, tt)))) $ pass1 ! (init ! 4 refl (tt, record { fits = gi })) $ pass0 ! $
-        move ! (11 ∷ 10 ∷ []) $ fsplit ! $ move ! (2 ∷ []) $ split ! $ move ! (2 ∷ 0 ∷ []) $
+        move ! (11 ∷ 10 ∷ []) $ fsplit ! $ move ! (2 ∷ []) $ split ! $ move ! (2 ∷ []) $
         -- [t's slice; the token; true; what the others own; _4 (4); …; _3 (6); …; _2 (8); …; _1 (10); …; _0 (12); …]
         assigns ! (of-opd ! (load ! (from ! (fld ! refl (stop !))) (look-in ! 10 (sub ! 1 refl (whole !))))) (from ! (stop !)) (init ! 6 refl (tt, record { fits = gn .0 })) $
         assigns ! (bin ! (load ! (from ! (stop !)) (look ! 8 refl)) (load ! (from ! (stop !)) (look ! 6 refl)) tt) (from ! (stop !)) (init ! 4 refl (tt, tt)) $

@@ -1,4 +1,5 @@
--- `tables::post` meets its contract: a walk of its MIR, by hand. A loop that changes the table, a counter and the next copy (`whiles3`): what a turn begins with is what is still to be laid.
+-- Written by tools/walks/walkgen.py from post.py beside it: change that.
+-- `tables::post` meets its contract: a walk of its MIR. A loop that changes the table, a counter and the next copy (`whiles3`): what a turn begins with is what is still to be laid.
 -- Assumes nothing.
 use mathlib.Core.Path.{_≡_, refl, sym, _∙_}
 use Prim.Native.Nat.{ℕ, zero, suc, _+_, _-_, _<_, _≤_, _^_}
@@ -40,7 +41,6 @@ use Rattle.words.specs.declared.Message.{Message}
 use Rattle.tables.proofs.Messages.{R, val, vals, tells, typed}
 use Rattle.tables.proofs.Calls.{Mut, slice}
 use Rattle.tables.proofs.MessageCalls.{PutMessage, NextCopy, calls-put-message, calls-next-copy}
-use Rattle.tables.proofs.RowCalls.{}
 use Rattle.tables.proofs.put_message.Symbol as put-message-def
 use Rattle.tables.proofs.put_message.Symbol.{name as #tables·put-message}
 use Rattle.tables.proofs.put_message.Met as put-message-thm
@@ -122,7 +122,7 @@ module _ {M : Type 1} (𝓤 : URA M) (H : Heap 𝓤) (A : Atoms 𝓤) (W : Given
         qed W ((‵ (flft κ q) ⊛ ‵ ftrue) ∷ ‵ (owns (MutSlice (named 0) κ R ∷ usize ∷ u8 ∷ R ∷ []) a at) ∷ []) ∵ enter ! (𝓣 .C) (𝓣 .Λ) code.function (sliceVal (b, o) n ∷ vint w64 s ∷ vint w8 c ∷ val m ∷ []) _ $
         alloc1 ! (λ l₀. alloc1 ! (λ l₁. alloc1 ! (λ l₂. alloc1 ! (λ l₃. alloc1 ! (λ l₄. alloc1 ! (λ l₅. alloc1 ! (λ l₆. alloc1 ! (λ l₇. alloc1 ! (λ l₈. alloc1 ! (λ l₉. alloc1 ! (λ l₁₀. alloc1 ! (λ l₁₁. alloc1 ! (λ l₁₂. alloc0 ! $ params1 ! $
         pass1 ! (init ! 22 refl (tt, (tt, (record { fits = gn .0 }, tt)))) $ pass1 ! (init ! 20 refl (tt, record { fits = gs })) $ pass1 ! (init ! 18 refl (tt, record { fits = gc })) $ pass1 ! (init ! 16 refl (typed 𝓤 H A W m gm)) $ pass0 ! $
-        move ! (27 ∷ 26 ∷ []) $ fsplit ! $ move ! (2 ∷ []) $ split ! $ move ! (2 ∷ 0 ∷ []) $
+        move ! (27 ∷ 26 ∷ []) $ fsplit ! $ move ! (2 ∷ []) $ split ! $ move ! (2 ∷ []) $
         -- [t's slice; the token; true; what the others own; _12 (4); …; _11 (6); …; _10 (8); …; _9 (10); …; _8 (12); …; _7 (14); …; _6 (16); …; _5 (18); …; _4 (20); …; _3 (22); …; _2 (24); …; _1 (26); …; _0 (28); …]
         assigns ! (un ! (load ! (from ! (stop !)) (look ! 22 refl)) (record { fits = count-fits h₀ (gn .0) })) (from ! (stop !)) (init ! 12 refl (tt, record { fits = count-fits h₀ (gn .0) })) $
         assigns ! (bin ! (load ! (from ! (stop !)) (look ! 24 refl)) (load ! (from ! (stop !)) (look ! 12 refl)) (record { fits = end-fits h₀ (gn .0) })) (from ! (stop !)) (init ! 18 refl (tt, record { fits = end-fits h₀ (gn .0) })) $
@@ -150,7 +150,7 @@ module _ {M : Type 1} (𝓤 : URA M) (H : Heap 𝓤) (A : Atoms 𝓤) (W : Given
 module _ {M : Type 1} (𝓤 : URA M) (H : Heap 𝓤) (A : Atoms 𝓤) (W : Given 𝓤 H A) (mem : Memory → SProp 𝓤) (run : Routine → Fun 𝓤) where
   post-walks : (𝓣 : Tables 𝓤 H) → FmC 𝓤 H (W .laws) (𝓣 .C) → Triple 𝓤 (𝓣 .C #tables·put-message) (PutMessage 𝓤 H A mem run) → Triple 𝓤 (𝓣 .C #tables·next-copy) (NextCopy 𝓤 H A mem run) → Walks 𝓤 H A post.ended stayed (WpFn 𝓤 H (𝓣 .C) (𝓣 .Λ) code.function) (post.clauses 𝓤 H A mem run)
   post-walks 𝓣 fm k₀ k₁ = walked 𝓤 H A post.ended stayed (post.clauses 𝓤 H A mem run) (WpFn 𝓤 H (𝓣 .C) (𝓣 .Λ) code.function) (λ κs. (slice-vals, (uint-vals w64, (uint-vals w8, (vals, tt))))) (λ κs. (mut-slice-tells (named 0) (κs .0) R, (uint-tells w64, (uint-tells w8, (tells, tt)))))
-      (λ κs qs bounds a g are. needs 𝓤 ((a .1 .0 + a .1 .1 .0 ≤ length (now (a .0))) × ((a .1 .1 .1 .0 .number + a .1 .1 .0 < 4294967296) × (a .1 .1 .1 .0 .to .0 + a .1 .1 .0 < 256))) _ (λ l.
+      (λ κs qs bounds a g are. needs 𝓤 (((a .1 .0) + (a .1 .1 .0) ≤ (length (now (a .0)))) × (((a .1 .1 .1 .0) .number + (a .1 .1 .0) < 4294967296) × ((a .1 .1 .1 .0) .to .0 + (a .1 .1 .0) < 256))) _ (λ l.
       walk 𝓤 H A W mem run (κs .0) (qs .0) (a .0 .ptr .0) (a .0 .ptr .1) (a .0 .name) (a .0 .now) (a .1 .0) (a .1 .1 .0) (a .1 .1 .1 .0) 𝓣 fm k₀ k₁ (are .0 .0 .1) (are .1 .0 .1) (are .1 .1 .0 .1) (are .1 .1 .1 .0) (l .0) (l .1 .0) (l .1 .1)))
 
 post-meets : {M : Type 1} (𝓤 : URA M) (H : Heap 𝓤) (A : Atoms 𝓤) → Given 𝓤 H A → (mem : Memory → SProp 𝓤) (run : Routine → Fun 𝓤) (𝓣 : Tables 𝓤 H) → Triple 𝓤 (𝓣 .C #tables·put-message) (PutMessage 𝓤 H A mem run) → Triple 𝓤 (𝓣 .C #tables·next-copy) (NextCopy 𝓤 H A mem run) → Meets 𝓤 H A post.signature (WpFn 𝓤 H (𝓣 .C) (𝓣 .Λ) code.function) (post.spec 𝓤 H A mem run)

@@ -1,4 +1,5 @@
--- `tables::take_off` meets its contract: a walk of its MIR, by hand. A loop: each turn moves one message down, and the gap is one place further on.
+-- Written by tools/walks/walkgen.py from take_off.py beside it: change that.
+-- `tables::take_off` meets its contract: a walk of its MIR. A loop: each turn moves one message down, and the gap is one place further on.
 -- Assumes nothing.
 use mathlib.Core.Path.{_≡_, refl, _∙_}
 use Prim.Native.Nat.{ℕ, _+_, _-_, _<_, _≤_, _^_}
@@ -39,7 +40,6 @@ use Rattle.words.specs.declared.Message.{Message}
 use Rattle.tables.proofs.Messages.{R, typed}
 use Rattle.tables.proofs.Calls.{Mut, slice}
 use Rattle.tables.proofs.MessageCalls.{MessageAt, PutMessage, EmptyMessage, calls-message-at, calls-put-message, calls-empty-message}
-use Rattle.tables.proofs.RowCalls.{}
 use Rattle.tables.proofs.message_at.Symbol as message-at-def
 use Rattle.tables.proofs.message_at.Symbol.{name as #tables·message-at}
 use Rattle.tables.proofs.message_at.Met as message-at-thm
@@ -115,7 +115,7 @@ module _ {M : Type 1} (𝓤 : URA M) (H : Heap 𝓤) (A : Atoms 𝓤) (W : Given
         qed W ((‵ (flft κ q) ⊛ ‵ ftrue) ∷ ‵ (owns (MutSlice (named 0) κ R ∷ usize ∷ usize ∷ []) a at) ∷ []) ∵ enter ! (𝓣 .C) (𝓣 .Λ) code.function (sliceVal (b, o) n ∷ vint w64 s ∷ vint w64 z ∷ []) _ $
         alloc1 ! (λ l₀. alloc1 ! (λ l₁. alloc1 ! (λ l₂. alloc1 ! (λ l₃. alloc1 ! (λ l₄. alloc1 ! (λ l₅. alloc1 ! (λ l₆. alloc1 ! (λ l₇. alloc1 ! (λ l₈. alloc1 ! (λ l₉. alloc1 ! (λ l₁₀. alloc1 ! (λ l₁₁. alloc1 ! (λ l₁₂. alloc1 ! (λ l₁₃. alloc1 ! (λ l₁₄. alloc1 ! (λ l₁₅. alloc1 ! (λ l₁₆. alloc0 ! $ params1 ! $
         pass1 ! (init ! 30 refl (tt, (tt, (record { fits = gn .0 }, tt)))) $ pass1 ! (init ! 28 refl (tt, record { fits = gs })) $ pass1 ! (init ! 26 refl (tt, record { fits = gz })) $ pass0 ! $
-        move ! (35 ∷ 34 ∷ []) $ fsplit ! $ move ! (2 ∷ []) $ split ! $ move ! (2 ∷ 0 ∷ []) $
+        move ! (35 ∷ 34 ∷ []) $ fsplit ! $ move ! (2 ∷ []) $ split ! $ move ! (2 ∷ []) $
         -- [t's slice; the token; true; what the others own; _16 (4); …; _15 (6); …; _14 (8); …; _13 (10); …; _12 (12); …; _11 (14); …; _10 (16); …; _9 (18); …; _8 (20); …; _7 (22); …; _6 (24); …; _5 (26); …; _4 (28); …; _3 (30); …; _2 (32); …; _1 (34); …; _0 (36); …]
         assigns ! (of-opd ! (load ! (from ! (stop !)) (look ! 32 refl))) (from ! (stop !)) (init ! 28 refl (tt, record { fits = gs })) $
         move ! (0 ∷ 28 ∷ []) $
@@ -152,7 +152,7 @@ module _ {M : Type 1} (𝓤 : URA M) (H : Heap 𝓤) (A : Atoms 𝓤) (W : Given
 module _ {M : Type 1} (𝓤 : URA M) (H : Heap 𝓤) (A : Atoms 𝓤) (W : Given 𝓤 H A) (mem : Memory → SProp 𝓤) (run : Routine → Fun 𝓤) where
   take-off-walks : (𝓣 : Tables 𝓤 H) → FmC 𝓤 H (W .laws) (𝓣 .C) → Triple 𝓤 (𝓣 .C #tables·message-at) (MessageAt 𝓤 H A mem run) → Triple 𝓤 (𝓣 .C #tables·put-message) (PutMessage 𝓤 H A mem run) → Triple 𝓤 (𝓣 .C #tables·empty-message) (EmptyMessage 𝓤 H A mem run) → Walks 𝓤 H A take-off.ended stayed (WpFn 𝓤 H (𝓣 .C) (𝓣 .Λ) code.function) (take-off.clauses 𝓤 H A mem run)
   take-off-walks 𝓣 fm k₀ k₁ k₂ = walked 𝓤 H A take-off.ended stayed (take-off.clauses 𝓤 H A mem run) (WpFn 𝓤 H (𝓣 .C) (𝓣 .Λ) code.function) (λ κs. (slice-vals, (uint-vals w64, (uint-vals w64, tt)))) (λ κs. (mut-slice-tells (named 0) (κs .0) R, (uint-tells w64, (uint-tells w64, tt))))
-      (λ κs qs bounds a g are. needs 𝓤 ((a .1 .0 < a .1 .1 .0) × (a .1 .1 .0 ≤ length (now (a .0)))) _ (λ l.
+      (λ κs qs bounds a g are. needs 𝓤 (((a .1 .0) < (a .1 .1 .0)) × ((a .1 .1 .0) ≤ (length (now (a .0))))) _ (λ l.
       walk 𝓤 H A W mem run (κs .0) (qs .0) (a .0 .ptr .0) (a .0 .ptr .1) (a .0 .name) (a .0 .now) (a .1 .0) (a .1 .1 .0) 𝓣 fm k₀ k₁ k₂ (are .0 .0 .1) (are .1 .0 .1) (are .1 .1 .0 .1) (l .0) (l .1)))
 
 take-off-meets : {M : Type 1} (𝓤 : URA M) (H : Heap 𝓤) (A : Atoms 𝓤) → Given 𝓤 H A → (mem : Memory → SProp 𝓤) (run : Routine → Fun 𝓤) (𝓣 : Tables 𝓤 H) → Triple 𝓤 (𝓣 .C #tables·message-at) (MessageAt 𝓤 H A mem run) → Triple 𝓤 (𝓣 .C #tables·put-message) (PutMessage 𝓤 H A mem run) → Triple 𝓤 (𝓣 .C #tables·empty-message) (EmptyMessage 𝓤 H A mem run) → Meets 𝓤 H A take-off.signature (WpFn 𝓤 H (𝓣 .C) (𝓣 .Λ) code.function) (take-off.spec 𝓤 H A mem run)
