@@ -1,4 +1,4 @@
--- What `start` replies: document 01, "Start". 18 first, then n, then m; a refused start gives no bench, and leaves the tables as they were.
+-- What `start` replies: document 01, "Numbers of refusal". 18 first, then n, then m; a refused start gives no bench, and leaves the tables as they were.
 use Prim.Native.Nat.{ℕ}
 use mathlib.Core.Bool.{Bool, cond, not, _&&_}
 use lib.Dec.{eqb}

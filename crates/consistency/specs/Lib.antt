@@ -1,8 +1,14 @@
+-- What a reader has to believe; and, in Demand3, what is proved
 pub mod Operations
+pub mod Demand3
+-- Why demand 2 stands beside it
+pub mod Alone
+-- Theory: what processes held, the moves of a run, the invariant
 pub mod Held
 pub mod Moves
 pub mod MoveLaws
 pub mod Sound
+-- Theory: every move keeps the invariant
 pub mod Begun
 pub mod Kept
 pub mod MoveKept
@@ -13,7 +19,6 @@ pub mod FlightKept
 pub mod EntriesKept
 pub mod TurnsKept
 pub mod SoundLaws
+-- Theory: the facts that the placing theorem needs
 pub mod Entries
 pub mod FactsLaws
-pub mod Demand3
-pub mod Alone

@@ -21,7 +21,7 @@ use Rattle.tables.specs.declared.Kind.the-variants.{Read, Write}
 use Rattle.tables.specs.declared.Row.{Row}
 use Rattle.tables.specs.Tables.{emptyRow}
 use Rattle.state.specs.State.{State, replicaOf, rowOf}
-use Rattle.sc_abd.specs.RequestNumbers.{isReply}
+use Rattle.moves.specs.Stages.{isReply}
 use Rattle.consistency.specs.Held.{Held, Recalls, clockAt}
 
 -- ---- where a pair comes from

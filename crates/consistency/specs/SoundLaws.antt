@@ -20,10 +20,11 @@ use Rattle.state.specs.EveryLaws.{getD-empty}
 use Rattle.consistency.specs.Held.{Held, heldIn, heldAfter}
 use Rattle.consistency.specs.Moves.{Move}
 use Rattle.consistency.specs.MoveLaws.{moves}
-use Rattle.sc_abd.specs.Lists.{All}
-use Rattle.sc_abd.specs.Places.{fresh-replica}
-use Rattle.sc_abd.specs.RequestNumbers.{Numbered, Timely, asker}
-use Rattle.sc_abd.specs.RequestNumbersReached.{reached-numbered}
+use Rattle.moves.specs.Lists.{All}
+use Rattle.moves.specs.Places.{fresh-replica}
+use Rattle.moves.specs.RequestNumbers.{Numbered, Timely}
+use Rattle.moves.specs.Stages.{asker}
+use Rattle.moves.specs.RequestNumberLaws.{reached-numbered}
 use Rattle.consistency.specs.Sound.{Sound, Begun}
 use Rattle.consistency.specs.MoveKept.{move-kept}
 use Rattle.consistency.specs.StoresKept.{move-stores}

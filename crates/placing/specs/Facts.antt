@@ -1,6 +1,6 @@
--- What the placing theorem needs to know of a history: the few facts that the protocol has to bring. Of DESIGN's five, F3 is `settled`, F4 is
--- `inTurn`, and F5 is `stamped`, `apart` and `sourced`. F2, that an invocation is below its response, is `settled` of an operation and itself. F1,
--- that invocation stamps are distinct, is not needed: operations of one point go by register, then by the register's order.
+-- What the placing theorem needs to know of a history: the few facts that the protocol has to bring. That an invocation is below its response is
+-- `settled` of an operation and itself. That invocation stamps are distinct is not needed: operations of one point go by register, then by the
+-- register's order.
 use Prim.Native.Nat.{ℕ, _<_, _≤_}
 use mathlib.Core.Path.{_≡_}
 use mathlib.Core.List.{List, List·Memᴰ}

@@ -1,1 +1,2 @@
+-- What a reader has to believe
 pub mod Reported

@@ -26,7 +26,7 @@ use Rattle.sc_abd.specs.AsMany.{as-many-messages}
 use Rattle.sc_abd.specs.Idle.{idle-outstanding}
 use Rattle.sc_abd.specs.Numbering.{seek-place}
 use Rattle.sc_abd.specs.Packets.{packets-without}
-use Rattle.sc_abd.specs.RequestNumbers.{Numbered}
+use Rattle.moves.specs.RequestNumbers.{Numbered}
 use Rattle.sc_abd.specs.SameFailure.{same-crash, same-lose}
 use Rattle.sc_abd.specs.SameInvocation.{same-read, same-write}
 use Rattle.sc_abd.specs.SameReceipt.{same-receive}

@@ -27,7 +27,7 @@ use Rattle.state.specs.Counting.{Moment, Run}
 use Rattle.state.specs.CountingLaws.{run-reached}
 use Rattle.state.specs.Keeps.{reached-well-formed}
 use Rattle.sc_abd.specs.Demand2.{ReachedBy}
-use Rattle.sc_abd.specs.RequestNumbers.{Stage, isReply, stageOf, stageFor}
+use Rattle.moves.specs.Stages.{Stage, isReply, stageOf, stageFor}
 use Rattle.sc_abd.specs.SameAck.{ack-not}
 use Rattle.sc_abd.specs.SameResponse.{nextBy, response-not}
 use Rattle.sc_abd.specs.Numbering.{found-place}

@@ -24,7 +24,7 @@ use Rattle.sc_abd.specs.Along.{names-one}
 use Rattle.sc_abd.specs.Complete.{sends-alike}
 use Rattle.sc_abd.specs.AsMany.{as-many-messages, as-many-rows}
 use Rattle.sc_abd.specs.Numbering.{found-place}
-use Rattle.sc_abd.specs.RequestNumbersReached.{reached-numbered}
+use Rattle.moves.specs.RequestNumberLaws.{reached-numbered}
 use Rattle.sc_abd.specs.Theorem.{reached, reached-well, step-meets-demand2}
 
 -- ---- the limits that a bench reads are those of the system that it is the same as

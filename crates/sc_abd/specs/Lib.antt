@@ -10,20 +10,13 @@ pub mod Corollaries
 pub mod SameLaws
 pub mod Impostors
 pub mod Uncounted
--- Lists, places, packets, rows
-pub mod Lists
-pub mod Places
+-- Packets, rows, answers
 pub mod Numbering
 pub mod Packets
 pub mod AsMany
 pub mod Histories
 pub mod Idle
 pub mod Answers
--- Request numbers
-pub mod RequestNumbers
-pub mod RequestNumbersMove
-pub mod RequestNumbersKept
-pub mod RequestNumbersReached
 -- Bench and system stay the same
 pub mod SameMove
 pub mod SameInvocation

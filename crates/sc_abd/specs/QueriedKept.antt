@@ -39,8 +39,8 @@ use Rattle.state.specs.RowsLaws.{row-stays}
 use Rattle.state.specs.WellLaws.{MessageOk, PhaseOk, Well, well, message-at}
 use Rattle.sc_abd.specs.Answers.{isMajority, waiting, Answers, plain-answers}
 use Rattle.sc_abd.specs.Answers.Answers.{replies, stores, discards, asks, chooses, waits, ends}
-use Rattle.sc_abd.specs.Places.{own-after, other-after, fresh-replica}
-use Rattle.sc_abd.specs.RequestNumbers.{Stage, isReply, stageOf, stageFor}
+use Rattle.moves.specs.Places.{own-after, other-after, fresh-replica}
+use Rattle.moves.specs.Stages.{Stage, isReply, stageOf, stageFor}
 use Rattle.sc_abd.specs.Numbering.{found-place}
 use Rattle.sc_abd.specs.Replied.{MajorityReplied, Queried, AllFilled, UpdatesRead, AllQueried, longer}
 use Rattle.sc_abd.specs.Replied.Replied.{earlier}

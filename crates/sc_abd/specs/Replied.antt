@@ -20,7 +20,7 @@ use Rattle.state.specs.State.{State, replicaOf}
 use Rattle.state.specs.Accepted.{messageAt}
 use Rattle.state.specs.Counting.{Moment}
 use Rattle.state.specs.PairLaws.{Within}
-use Rattle.sc_abd.specs.RequestNumbers.{Stage, isReply, stageOf, stageFor}
+use Rattle.moves.specs.Stages.{Stage, isReply, stageOf, stageFor}
 
 -- at this moment a reply from j was delivered to p
 pub record Receives (p j rid : ℕ) (stage : Stage) (moment : Moment) : Type 0 where

@@ -29,11 +29,11 @@ use Rattle.state.specs.Counting.RunBy.{begun, then}
 use Rattle.state.specs.CountingLaws.{run-reached}
 use Rattle.state.specs.Keeps.{reached-well-formed}
 use Rattle.state.specs.WellLaws.{Well, well, message-at}
+use Rattle.moves.specs.OfLaws.{member-empty}
+use Rattle.moves.specs.Places.{own-after, other-after, fresh-replica}
+use Rattle.moves.specs.Stages.{isReply, stageOf, stageFor}
 use Rattle.sc_abd.specs.Answers.{chosen, ended, asking, waiting, Answers, plain-answers}
 use Rattle.sc_abd.specs.Answers.Answers.{replies, stores, discards, asks, chooses, waits, ends}
-use Rattle.sc_abd.specs.Places.{own-after, other-after, fresh-replica}
-use Rattle.sc_abd.specs.RequestNumbers.{isReply, stageOf, stageFor}
-use Rattle.sc_abd.specs.RequestNumbersMove.{member-empty}
 use Rattle.sc_abd.specs.Idle.{idle-empty}
 use Rattle.sc_abd.specs.Numbering.{found-place}
 use Rattle.sc_abd.specs.Replied.{Replied, MajorityReplied, Filled, AllFilled, longer}

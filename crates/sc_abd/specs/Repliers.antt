@@ -13,7 +13,7 @@ use Rattle.words.specs.Quorum.{member, joined, counted, majorityOf}
 use Rattle.words.specs.QuorumLaws.{joined-has, joined-counted-new, counted-empty}
 use Rattle.sc_abd.specs.Algorithm1.{Tsv, Reply, sameTsv, sameReply, isIn, join, maxTsv, maxFrom, maxOf, majority}
 use Rattle.sc_abd.specs.Same.{replier, hasReplied, SameReplies}
-use Rattle.sc_abd.specs.RequestNumbersMove.{joined-other, member-empty}
+use Rattle.moves.specs.OfLaws.{joined-other, member-empty}
 
 pub none-replied : SameReplies 0 []
 none-replied = record { each = λ j l. member-empty j; many = counted-empty }

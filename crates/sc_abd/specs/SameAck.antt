@@ -39,8 +39,9 @@ use Rattle.sc_abd.specs.Same.{tsvOf, operationOf, pointedRows, isRead, S
 use Rattle.sc_abd.specs.Answers.{isMajority, ended, waiting, ack-answers}
 use Rattle.sc_abd.specs.Histories.{doneOf, completed-operation, returning-row}
 use Rattle.sc_abd.specs.Repliers.{none-replied, joins, one-more, majority-test}
-use Rattle.sc_abd.specs.RequestNumbers.{Stage, stageOf, stageFor, Numbered}
-use Rattle.sc_abd.specs.RequestNumbersKept.{not-counted, present-stage}
+use Rattle.moves.specs.RequestNumbers.{Numbered}
+use Rattle.moves.specs.Stages.{Stage, stageOf, stageFor}
+use Rattle.moves.specs.PresentLaws.{not-counted, present-stage}
 use Rattle.sc_abd.specs.SameMove.{RowsKept, same-moved}
 use Rattle.sc_abd.specs.SameRequest.{system, own, left, same-received, clock-after}
 use Rattle.sc_abd.specs.SameResponse.{nextBy, same-discarded, sender-small}
@@ -155,7 +156,7 @@ module _ (s : State) (w : Well s) (n : Numbered s) (a : System) (same : Same s a
       after = q .responses ++ (reply ∷ [])
 
       new : member (r .repliers) (m .from .0) ≡ false
-      new = not-counted s (w .seven) n i l p (actor .least) (omega (arith, actor .most, w .processes .most)) to (rw is refl) e
+      new = not-counted s n i l p to (rw is refl) e (actor .least)
 
       phase : SameUpdate (rowOf s row) sent q (a .asking p)
       phase = subst (λ ph. SamePhase s ph q (a .asking p)) f (mine .phase)
@@ -252,7 +253,7 @@ module _ (s : State) (w : Well s) (n : Numbered s) (a : System) (same : Same s a
     where
       stage : messageAt s i .rid .0 ≡ replicaOf s p .rid .0 → stageOf (replicaOf s p .phase) ≡ Stage.updating
       stage e =
-          present-stage s (w .seven) n i l p (actor .least) (omega (arith, actor .most, w .processes .most)) to (rw is refl) e ∙ ap stageFor is
+          present-stage s n i l p to (rw is refl) e ∙ ap stageFor is
 
       updating : (phase : Phase) → replicaOf s p .phase ≡ phase → messageAt s i .rid .0 ≡ replicaOf s p .rid .0
           → Meets ours theirs

@@ -19,7 +19,7 @@ use Rattle.sc_abd.specs.Algorithm1.{Process}
 use Rattle.sc_abd.specs.System.{System, Action, without, taken}
 use Rattle.sc_abd.specs.Same.{packetOf, SamePhase, SameProcess, Same}
 use Rattle.sc_abd.specs.Packets.{packets-without}
-use Rattle.sc_abd.specs.Places.{own-after, other-after}
+use Rattle.moves.specs.Places.{own-after, other-after}
 use Rattle.sc_abd.specs.SameMove.{rows-kept, process-moved}
 
 module _ (s : State) (w : Well s) (a : System) (same : Same s a) where

@@ -23,7 +23,7 @@ use Rattle.sc_abd.specs.Same.{tsvOf, operationOf, pointedRows, SamePhase
 use Rattle.sc_abd.specs.Demand2.{registerOf}
 use Rattle.sc_abd.specs.Histories.{outstanding-pending}
 use Rattle.sc_abd.specs.Packets.{asks-all}
-use Rattle.sc_abd.specs.RequestNumbers.{Stage, stageOf}
+use Rattle.moves.specs.Stages.{Stage, stageOf}
 
 -- ---- a row is told by its operation
 

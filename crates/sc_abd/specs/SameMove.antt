@@ -20,9 +20,9 @@ use Rattle.state.specs.PairLaws.{Within}
 use Rattle.state.specs.WellFormed.{pendingOf}
 use Rattle.state.specs.WellLaws.{Well}
 use Rattle.sc_abd.specs.Algorithm1.{Packet, Process, Done}
+use Rattle.moves.specs.Places.{own-after, other-after}
 use Rattle.sc_abd.specs.System.{Operation, System, historyAfter, asksAfter, doing}
 use Rattle.sc_abd.specs.Same.{packetOf, operationOf, pointedRows, SameQuery, SameUpdate, SamePhase, SameProcess, Same}
-use Rattle.sc_abd.specs.Places.{own-after, other-after}
 
 -- the operation that q has outstanding, if any, is the same in other rows
 pub record RowsKept (s : State) (rows : List Row) (q : ℕ) : Type 0 where

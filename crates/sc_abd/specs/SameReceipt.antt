@@ -18,7 +18,7 @@ use Rattle.sc_abd.specs.Algorithm1.{Packet, onReceipt}
 use Rattle.sc_abd.specs.System.{System, Action, without, nowhere, at, doing, taken}
 use Rattle.sc_abd.specs.Same.{contentOf, packetOf, Same}
 use Rattle.sc_abd.specs.Packets.{packet-at}
-use Rattle.sc_abd.specs.RequestNumbers.{Numbered}
+use Rattle.moves.specs.RequestNumbers.{Numbered}
 use Rattle.sc_abd.specs.SameRequest.{system, same-query, same-update}
 use Rattle.sc_abd.specs.SameResponse.{nextBy, same-response}
 use Rattle.sc_abd.specs.SameAck.{same-ack}

@@ -36,8 +36,9 @@ use Rattle.sc_abd.specs.Same.{tsvOf, pointedRows, isRead, SameQuery, Sam
 use Rattle.sc_abd.specs.Answers.{isMajority, chosen, asking, response-answers}
 use Rattle.sc_abd.specs.Packets.{packets-sent, asks-all}
 use Rattle.sc_abd.specs.Repliers.{none-replied, joins, one-more, majority-test, max-more}
-use Rattle.sc_abd.specs.RequestNumbers.{Stage, stageOf, stageFor, Numbered}
-use Rattle.sc_abd.specs.RequestNumbersKept.{not-counted, present-stage}
+use Rattle.moves.specs.RequestNumbers.{Numbered}
+use Rattle.moves.specs.Stages.{Stage, stageOf, stageFor}
+use Rattle.moves.specs.PresentLaws.{not-counted, present-stage}
 use Rattle.sc_abd.specs.SameRequest.{bench, system, own, same-received, still, clock-after, tsv-newer}
 
 -- the bench after the message at place i was received by p with this answer, its row answered
@@ -138,7 +139,7 @@ module _ (s : State) (w : Well s) (n : Numbered s) (a : System) (same : Same s a
           newest = newer best pair
 
           new : member (r .repliers) (m .from .0) ≡ false
-          new = not-counted s (w .seven) n i l p (actor .least) (omega (arith, actor .most, w .processes .most)) to (rw is refl) e
+          new = not-counted s n i l p to (rw is refl) e (actor .least)
 
           phase : SameQuery (rowOf s row) best q (a .asking p)
           phase = subst (λ ph. SamePhase s ph q (a .asking p)) f (mine .phase)
@@ -209,7 +210,7 @@ module _ (s : State) (w : Well s) (n : Numbered s) (a : System) (same : Same s a
       where
         stage : messageAt s i .rid .0 ≡ replicaOf s p .rid .0 → stageOf (replicaOf s p .phase) ≡ Stage.querying
         stage e =
-            present-stage s (w .seven) n i l p (actor .least) (omega (arith, actor .most, w .processes .most)) to (rw is refl) e ∙ ap stageFor is
+            present-stage s n i l p to (rw is refl) e ∙ ap stageFor is
 
         querying : (phase : Phase) → replicaOf s p .phase ≡ phase → messageAt s i .rid .0 ≡ replicaOf s p .rid .0
             → Meets ours theirs

@@ -15,7 +15,7 @@ use Rattle.sc_abd.specs.Same.{Same}
 use Rattle.sc_abd.specs.Demand2.{Names}
 use Rattle.sc_abd.specs.AsMany.{as-many-messages}
 use Rattle.sc_abd.specs.Numbering.{found-place}
-use Rattle.sc_abd.specs.RequestNumbers.{Numbered}
+use Rattle.moves.specs.RequestNumbers.{Numbered}
 use Rattle.sc_abd.specs.SameInvocation.{invoke-enabled, same-read, same-write}
 use Rattle.sc_abd.specs.SameReceipt.{at-message, same-receive}
 use Rattle.sc_abd.specs.SameFailure.{same-crash, same-lose}

@@ -14,9 +14,9 @@ use Rattle.sc_abd.specs.System.{started}
 use Rattle.sc_abd.specs.Same.{tsvOf, Same}
 use Rattle.sc_abd.specs.Demand2.{ReachedBy, Demand2}
 use Rattle.sc_abd.specs.Complete.{step-complete}
-use Rattle.sc_abd.specs.Places.{fresh-replica}
+use Rattle.moves.specs.Places.{fresh-replica}
 use Rattle.sc_abd.specs.Repliers.{none-replied}
-use Rattle.sc_abd.specs.RequestNumbersReached.{reached-numbered}
+use Rattle.moves.specs.RequestNumberLaws.{reached-numbered}
 use Rattle.sc_abd.specs.Sound.{step-sound}
 
 -- ---- a fresh bench is the algorithm's start

@@ -1,2 +1,4 @@
+-- What a reader has to believe
 pub mod Status
+-- Laws
 pub mod StatusLaws

@@ -62,7 +62,7 @@ plainBy s r message Ack = ackRule r (s .n) (message .from) (message .time) (mess
 abbrev pub plain : State → Replica → Message → Answer
 plain s r message = plainBy s r message (message .body)
 
-received-answers : (s : State) (r : Replica) (message : Message) → received s r message .refusal ≡ 0 → received s r message ≡ plain s r message
+pub received-answers : (s : State) (r : Replica) (message : Message) → received s r message .refusal ≡ 0 → received s r message ≡ plain s r message
 unfolding queryReceived updateReceived responseReceived ackReceived
 received-answers s r message = go (message .body)
   where
@@ -191,6 +191,7 @@ crash-accepted s p e =
 
 pub record InFlight (s : State) (k i : ℕ) : Type 0 where
   pub room : s .accepted < 12000
+  pub place : seek k 0 (s .flight) ≡ At i
   pub inside : i < length (s .flight)
   pub number : messageAt s i .number ≡ k
 
@@ -205,7 +206,7 @@ in-flight s k act none e = go (full s) refl (seek k 0 (s .flight)) refl e
     go false u Missing h z = absurd (omega (arith, none))
     go false u (At i) h z =
         let found = seek-at k (length (s .flight)) i (s .flight) (sym (ap (seek k 0) (take-length (s .flight)) ∙ h)) in
-        (i, record { room = room-left s u; inside = found .0; number = found .1 }, refl)
+        (i, record { room = room-left s u; place = h; inside = found .0; number = found .1 }, refl)
 
 -- the message at place i may be delivered
 pub record Deliverable (s : State) (k i : ℕ) : Type 0 where

@@ -3,21 +3,18 @@ use Prim.Native.Nat.{ℕ, _+_}
 use mathlib.Core.Path.{_≡_}
 use mathlib.Core.List.{[], _∷_, _++_}
 use lib.IntN.{ℤ}
-use lib.ListN.{length, getD}
-use Rattle.words.specs.declared.Body.{Body}
-use Rattle.words.specs.declared.Body.the-variants.{Query, Response, Update, Ack}
-use Rattle.words.specs.declared.Message.{Message}
+use lib.ListN.{length}
 use Rattle.words.specs.declared.Pid.{Pid}
 use Rattle.replica.specs.declared.Answer.{Answer}
-use Rattle.replica.specs.declared.Replica.{Replica}
-use Rattle.replica.specs.Handlers.{readRule, writeRule, queryRule, updateRule, responseRule, ackRule, crashRule}
+use Rattle.replica.specs.Handlers.{readRule, writeRule, crashRule}
 use Rattle.replica.specs.Numbers.{pointed}
 use Rattle.tables.specs.declared.Found.the-variants.{At as Place}
-use Rattle.tables.specs.Tables.{emptyMessage, seek, removed}
+use Rattle.tables.specs.Tables.{seek, removed}
 use Rattle.state.specs.declared.Event.{Event}
 use Rattle.state.specs.declared.Event.the-variants.{Read, Write, Deliver, Crash, Lose}
 use Rattle.state.specs.State.{State, replicaOf}
-use Rattle.state.specs.Step.{moved, withoutMessage, readRow, writeRow, answeredRows, askedRegister}
+pub use Rattle.state.specs.Accepted.{messageAt, recipientAt as receiverOf, plainBy as ruleBy}
+use Rattle.state.specs.Step.{moved, withoutMessage, readRow, writeRow, answeredRows}
 
 -- ---- the next state, from what the process answered
 
@@ -30,22 +27,16 @@ afterWrite s p x value answer = moved s p answer (s .flight) (s .delivered) (s .
 abbrev pub afterCrash : State → ℕ → Answer → State
 afterCrash s p answer = moved s p answer (s .flight) (s .delivered) (s .rows)
 
--- the message at place i, its recipient p and p's replica
-abbrev pub messageAt : State → ℕ → Message
-messageAt s i = getD (s .flight) i emptyMessage
-
+-- the recipient of the message at place i; the message and the recipient's replica are those of `Accepted`
 abbrev pub recipientOf : State → ℕ → ℕ
 recipientOf s i = messageAt s i .to .0
-
-abbrev pub receiverOf : State → ℕ → Replica
-receiverOf s i = replicaOf s (recipientOf s i)
 
 abbrev pub afterDeliver : State → ℕ → Answer → State
 afterDeliver s i answer =
     moved s (recipientOf s i) answer (removed i (s .flight)) (s .delivered + 1)
     (answeredRows (s .rows) (pointed (receiverOf s i .phase)) (answer .ended))
 
--- ---- the rule of an invocation, of a crash, and of a message by its body
+-- ---- the rule of an invocation, of a crash, and of a message
 
 abbrev pub readOf : State → Pid → ℕ → Answer
 readOf s p x = readRule (replicaOf s (p .0)) x (length (s .rows) + 1)
@@ -55,12 +46,6 @@ writeOf s p x value = writeRule (replicaOf s (p .0)) p x value (length (s .rows)
 
 abbrev pub crashOf : State → Pid → Answer
 crashOf s p = crashRule (replicaOf s (p .0))
-
-abbrev pub ruleBy : State → Replica → Message → Body → Answer
-ruleBy s r message (Query x) = queryRule r (message .from) (message .time) (message .rid) x
-ruleBy s r message (Response pair) = responseRule r (s .n) (askedRegister s (r .phase)) (message .from) (message .time) (message .rid) pair
-ruleBy s r message (Update x pair) = updateRule r (message .from) (message .time) (message .rid) x pair
-ruleBy s r message Ack = ackRule r (s .n) (message .from) (message .time) (message .rid)
 
 abbrev pub ruleAt : State → ℕ → Answer
 ruleAt s i = ruleBy s (receiverOf s i) (messageAt s i) (messageAt s i .body)

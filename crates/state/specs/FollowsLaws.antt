@@ -5,14 +5,10 @@ use mathlib.Core.Bool.{Bool, true, false, cond, not}
 use lib.Dec.{eqb, leb}
 use lib.ListN.{length}
 use borrow.Author.Tests.{eqb-false, ne-eqb, eq-eqb}
-use Rattle.words.specs.declared.Body.{Body}
-use Rattle.words.specs.declared.Body.the-variants.{Query, Response, Update, Ack}
-use Rattle.words.specs.declared.Message.{Message}
 use Rattle.words.specs.Ranges.{within}
 use Rattle.replica.specs.declared.Answer.{Answer}
 use Rattle.replica.specs.declared.Replica.{Replica}
 use Rattle.replica.specs.Handlers.{unlessRefused, refused, isIdle, readBegun, readRefusal, readRule, writeBegun, writeRefusal, writeRule}
-use Rattle.replica.specs.Handlers.{queryReceived, queryRefusal, updateReceived, updateRefusal, responseReceived, responseRefusal, ackReceived, ackRefusal}
 use Rattle.replica.specs.Handlers.{crashed, crashRefusal as crashGuard, crashRule}
 use Rattle.replica.specs.HandlerLaws.{picks-first, picks-second}
 use Rattle.replica.specs.Numbers.{sentBy}
@@ -22,10 +18,10 @@ use Rattle.tables.specs.Tables.{seek}
 use Rattle.state.specs.declared.Event.{Event}
 use Rattle.state.specs.declared.Event.the-variants.{Read, Write, Deliver, Crash, Lose}
 use Rattle.state.specs.State.{State, replicaOf}
-use Rattle.state.specs.Step.{Outcome, outcome, full, noRoom, invokeRefusal, deliverRefusal, crashRefusal, askedRegister, receivedBy, received}
+use Rattle.state.specs.Step.{Outcome, outcome, full, noRoom, invokeRefusal, deliverRefusal, crashRefusal, received}
 use Rattle.state.specs.Step.{step, stepRead, stepWrite, stepDeliver, deliverAt, stepCrash, stepLose, loseAt}
-use Rattle.state.specs.Accepted.{rule-answers, passed}
-use Rattle.state.specs.Follows.{Follows, ruleBy, afterRead, afterWrite, messageAt, receiverOf, afterDeliver, afterCrash}
+use Rattle.state.specs.Accepted.{rule-answers, received-answers, passed}
+use Rattle.state.specs.Follows.{Follows, afterRead, afterWrite, messageAt, receiverOf, afterDeliver, afterCrash}
 use Rattle.state.specs.Follows.Follows.{reads, writes, delivers, crashes, loses}
 
 -- what holds of both cases holds of the one that a test picks
@@ -37,15 +33,6 @@ either-way P false x y h l = l
 
 let-through : (number : ℕ) (r : Replica) (rule : Answer) → unlessRefused number r rule .refusal ≡ 0 → rule ≡ unlessRefused number r rule
 let-through number r rule z = sym (rule-answers number r rule z)
-
-received-rule : (s : State) (r : Replica) (message : Message) (body : Body)
-    → receivedBy s r message body .refusal ≡ 0 → ruleBy s r message body ≡ receivedBy s r message body
-unfolding queryReceived updateReceived responseReceived ackReceived
-received-rule s r message (Query x) = let-through (queryRefusal r (message .from) (message .time) (message .rid) x) _ _
-received-rule s r message (Response pair) =
-    let-through (responseRefusal r (s .n) (askedRegister s (r .phase)) (message .from) (message .time) (message .rid) pair) _ _
-received-rule s r message (Update x pair) = let-through (updateRefusal r (message .from) (message .time) (message .rid) x pair) _ _
-received-rule s r message Ack = let-through (ackRefusal r (s .n) (message .from) (message .time) (message .rid)) _ _
 
 -- ---- where no check held, the last number was 0
 
@@ -91,7 +78,7 @@ deliver-judged s k (Place i) e =
     let r = receiverOf s i in
     judged s (Deliver k) _ _ λ z.
     subst (λ a. Follows s (Deliver k) (afterDeliver s i a))
-    (received-rule s r message (message .body) (deliver-passed s r (received s r message) z))
+    (sym (received-answers s r message (deliver-passed s r (received s r message) z)))
     (delivers k i e)
 
 lose-judged : (s : State) (k : ℕ) (found : Found) → seek k 0 (s .flight) ≡ found → Judged s (Lose k) (loseAt s found)

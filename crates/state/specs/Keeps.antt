@@ -1,4 +1,4 @@
--- Document 01, "Well formed": a fresh bench is well formed, every accepted event keeps this, and so every state reached is well formed.
+-- Document 01, "Numbers of refusal", of what is well formed: a fresh bench is well formed, every accepted event keeps this, and so every state reached is well formed.
 use Prim.Native.Nat.{ℕ, zero, suc, _-_, _≤_}
 use mathlib.Core.Path.{_≡_, refl, sym, ap, subst}
 use mathlib.Core.Bool.{true}

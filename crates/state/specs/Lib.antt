@@ -11,10 +11,9 @@ pub mod Follows
 pub mod FollowsLaws
 pub mod Accepted
 pub mod Refusals
--- Counts and clocks
+-- Counts
 pub mod CountingLaws
 pub mod MadeUp
-pub mod ClockGrowthLaws
 -- Every accepted event keeps what is well formed
 pub mod EveryLaws
 pub mod FlightLaws

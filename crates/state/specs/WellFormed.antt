@@ -1,4 +1,4 @@
--- Well formed: document 01's paragraph, clause by clause, for the state of a bench. (That the unused places of both tables are empty is said of
+-- Well formed: document 01, "Numbers of refusal", the last paragraph clause by clause, for the state of a bench. (That the unused places of both tables are empty is said of
 -- the tables, in `Tabled`.)
 use Prim.Native.Nat.{ℕ, zero, suc, _+_, _*_}
 use mathlib.Core.Bool.{Bool, true, false, not, cond, _&&_, _||_}

@@ -1,11 +1,15 @@
-pub mod DigitLaws
+-- What a reader has to believe
+pub mod Printed
+pub mod Written
+-- How the code does it: digits, and lines over plain numbers
 pub mod Digits
-pub mod Examples
+pub mod Lines
+-- Laws
+pub mod DigitLaws
 pub mod LaidLaws
 pub mod LengthLaws
 pub mod LineLaws
-pub mod Lines
-pub mod Printed
 pub mod WholeLaws
-pub mod Written
 pub mod WrittenLaws
+-- What they compute to
+pub mod Examples
