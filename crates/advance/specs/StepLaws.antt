@@ -32,12 +32,12 @@ use Rattle.tables.specs.TableLaws.{seek-at}
 use Rattle.state.specs.declared.Event.{Event}
 use Rattle.state.specs.declared.Event.the-variants.{Read, Write, Deliver, Crash, Lose}
 use Rattle.state.specs.State.{State, freshReplica, replicaOf, laidMessages, laidRows}
-use Rattle.state.specs.Step.{outcome, check, full, noRoom, invokeRefusal, deliverRefusal, crashRefusal, readRow, writeRow, completed, moved, answeredRows, withoutMessage, askedRegister, receivedBy, received}
+use Rattle.state.specs.Step.{outcome, check, full, noRoom, invokeRefusal, deliverRefusal, crashRefusal, readRow, writeRow, completed, moved, answeredRows, withoutMessage, askedRegister, heardBy, heard}
 use Rattle.state.specs.Step.{step, stepRead, stepWrite, stepDeliver, stepCrash, stepLose, deliverAt, loseAt}
 use Rattle.state.specs.Tabled.{benchOf}
 use Rattle.state.specs.Accepted.{passed}
 use Rattle.state.specs.Sized.{answered-length}
-use Rattle.decide.specs.Plan.{quietPlan, refusedPlan, acceptedPlan, settled, numberBy, rowBy, askedOf, answerBy, answerTo, planOf, readPlan, writePlan, deliverPlan, crashPlan, losePlan}
+use Rattle.decide.specs.Plan.{quietPlan, refusedPlan, acceptedPlan, settled, numberBy, rowBy, registerAsked, answerBy, answerTo, planOf, readPlan, writePlan, deliverPlan, crashPlan, losePlan}
 use Rattle.advance.specs.declared.Known.{Known}
 use Rattle.advance.specs.declared.Tally.{Tally}
 use Rattle.advance.specs.Answers.{read-begun, write-begun, crash-silent, answer-right, Waited}
@@ -94,18 +94,18 @@ rows-done s g (At time pair) (Updating number sent) w points =
 
 -- ---- what a recipient answers, by the row that was gathered
 
-asked-is : (s : State) (phase : Phase) → askedOf phase (getD (s .rows) (pointed phase - 1) emptyRow) ≡ askedRegister s phase
+asked-is : (s : State) (phase : Phase) → registerAsked phase (getD (s .rows) (pointed phase - 1) emptyRow) ≡ askedRegister s phase
 asked-is s Idle = refl
 asked-is s (Querying number best) = refl
 asked-is s (Updating number sent) = refl
 
-body-is : (s : State) (r : Replica) (m : Message) (x : Body) → answerBy x (s .n) (askedRegister s (r .phase)) r m ≡ receivedBy s r m x
+body-is : (s : State) (r : Replica) (m : Message) (x : Body) → answerBy x (s .n) (askedRegister s (r .phase)) r m ≡ heardBy s r m x
 body-is s r m (Query x) = refl
 body-is s r m (Response pair) = refl
 body-is s r m (Update x pair) = refl
 body-is s r m Ack = refl
 
-answer-is : (s : State) (r : Replica) (m : Message) → answerTo (s .n) (askedOf (r .phase) (getD (s .rows) (pointed (r .phase) - 1) emptyRow)) r m ≡ received s r m
+answer-is : (s : State) (r : Replica) (m : Message) → answerTo (s .n) (registerAsked (r .phase) (getD (s .rows) (pointed (r .phase) - 1) emptyRow)) r m ≡ heard s r m
 answer-is s r m = ap (λ (a : ℕ). answerTo (s .n) a r m) (asked-is s (r .phase)) ∙ body-is s r m (m .body)
 
 -- ---- refusals that stand before the others
@@ -181,7 +181,7 @@ module _ (s : State) (g : Good s) where
       let m : Message = getD (s .flight) i emptyMessage in
       let r : Replica = replicaOf s (m .to .0) in
       let l : i < length (s .flight) = found-within k i e in
-      let asked : ℕ = askedOf (r .phase) (getD (s .rows) (pointed (r .phase) - 1) emptyRow) in
+      let asked : ℕ = registerAsked (r .phase) (getD (s .rows) (pointed (r .phase) - 1) emptyRow) in
       subst (λ (a : Answer). Done (workOf (benchOf s) (Deliver k) (gathered s (Deliver k) (Place i))) s (cond (full s) (outcome s 17 s) (outcome s (deliverRefusal s r a) (moved s (m .to .0) a (removed i (s .flight)) (s .delivered + 1) (answeredRows (s .rows) (pointed (r .phase)) (a .ended))))))
       (answer-is s r m)
       (receive-done (m .to .0) i l r (answerTo (s .n) asked r m) (answer-right (s .n) asked r m (g .sender i l) .0) (answer-right (s .n) asked r m (g .sender i l) .1) (g .points i l))

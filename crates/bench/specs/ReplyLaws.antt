@@ -16,7 +16,7 @@ use Rattle.bench.specs.Start.{replied}
 use Rattle.bench.specs.Reply.{unformed, stepReply, stepMessages, stepRows}
 
 -- what was replied, and what the tables hold, is what `step` says
-pub record Replied (b : Bench) (event : Event) (messages : List Message) (rows : List Row) (r : Stepped) (messages′ : List Message) (rows′ : List Row) : Type 0 where
+pub record StepReplied (b : Bench) (event : Event) (messages : List Message) (rows : List Row) (r : Stepped) (messages′ : List Message) (rows′ : List Row) : Type 0 where
   pub reply : r ≡ stepReply b event messages rows
   pub messages-left : messages′ ≡ stepMessages b event messages rows
   pub rows-left : rows′ ≡ stepRows b event messages rows
@@ -33,7 +33,7 @@ module _ (b : Bench) (event : Event) (messages : List Message) (rows : List Row)
   abbrev next : Outcome
   next = step (view b messages rows) event
 
-  pub advanced-replied : tabled b messages rows ≡ true → (r : Stepped) (messages′ : List Message) (rows′ : List Row) → Advanced b event messages rows r messages′ rows′ → Replied b event messages rows r messages′ rows′
+  pub advanced-replied : tabled b messages rows ≡ true → (r : Stepped) (messages′ : List Message) (rows′ : List Row) → Advanced b event messages rows r messages′ rows′ → StepReplied b event messages rows r messages′ rows′
   unfolding stepReply stepMessages stepRows
   advanced-replied e r messages′ rows′ a =
       record {
@@ -42,7 +42,7 @@ module _ (b : Bench) (event : Event) (messages : List Message) (rows : List Row)
         rows-left = pick _ true (laidRows (next .state)) rows _ e (a .rows-laid);
       }
 
-  pub refused-replied : tabled b messages rows ≡ false → (r : Stepped) → r ≡ unformed b → Replied b event messages rows r messages rows
+  pub refused-replied : tabled b messages rows ≡ false → (r : Stepped) → r ≡ unformed b → StepReplied b event messages rows r messages rows
   unfolding stepReply stepMessages stepRows
   refused-replied e r f =
       record {

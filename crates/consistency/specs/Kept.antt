@@ -20,7 +20,7 @@ use Rattle.tables.specs.declared.Row.{Row}
 use Rattle.tables.specs.Tables.{emptyRow}
 use Rattle.state.specs.State.{State, replicaOf, rowOf}
 use Rattle.consistency.specs.Held.{Held, Recalls, clockAt}
-use Rattle.consistency.specs.Sound.{Begun, From, Quorum, Below, Above, Stores, Serves, Asking, Telling, Numbered, Waits}
+use Rattle.consistency.specs.Sound.{Begun, From, Quorum, Below, Above, Stores, Serves, Asking, Telling, IsRow, Waits}
 use Rattle.consistency.specs.Sound.{WhileAsking, WhileTelling, QueryOf, UpdateOf, ResponseOf, AckOf, Says, Carried, Done, Entered}
 
 pub record RowKept (r after : Row) : Type 0 where
@@ -135,7 +135,7 @@ module _ {s t : State} {held after : Held} (kept : Kept s held t after) where
   -- ---- a message that was in flight before
 
   module _ (waits : (q : ℕ) → 1 ≤ q → Waits s held q) where
-    row-kept : (i : ℕ) → Numbered s i → RowKept (rowOf s i) (rowOf t i)
+    row-kept : (i : ℕ) → IsRow s i → RowKept (rowOf s i) (rowOf t i)
     row-kept i (a, b) = kept .rows .kept (i - 1) (omega arith)
 
     pub while-asking : (p rid : ℕ) (Holds HoldsThen : Row → Type 0) → 1 ≤ p → rid ≤ replicaOf s p .rid .0

@@ -23,7 +23,7 @@ use Rattle.state.specs.declared.Event.{Event}
 use Rattle.state.specs.State.{State, replicaOf}
 use Rattle.state.specs.Step.{step, moved, posted}
 use Rattle.state.specs.Accepted.{messageAt}
-use Rattle.moves.specs.Move.{Move as EventMove, Begins, Delivers, Responds as Response, Acks as Ack, beginning, asking, newRow, writtenBy, received, downNow}
+use Rattle.moves.specs.Move.{Move as EventMove, Begins, Delivers, Responds as Response, Acks as Ack, beginning, asking, newRow, writtenBy, arrived, downNow}
 use Rattle.moves.specs.Move.Move.{reads as reading, writes as writing, responds as responding, stores as storing, discards as discarding}
 use Rattle.moves.specs.Move.Move.{counts as counting, chooses as choosing, gathers as gathering, completes as completing, crashes, loses}
 use Rattle.moves.specs.MoveLaws.{moves as event-moves}
@@ -110,7 +110,7 @@ module _ (s : State) (seven : length (s .replicas) ≡ 7) (few : s .n ≤ 7)
     flying : List·Memᴰ (messageAt s i) (s .flight)
     flying = at-member (s .flight) i emptyMessage (found-inside s k i (d .found))
 
-    received-turn : (r : Replica) (sends : Sends) (rows : List Row) → Turn s (received s i r sends rows) (messageAt s i .to .0) r sends rows
+    received-turn : (r : Replica) (sends : Sends) (rows : List Row) → Turn s (arrived s i r sends rows) (messageAt s i .to .0) r sends rows
     received-turn r sends rows =
         let range = to (messageAt s i) flying in
         turn s seven (messageAt s i .to .0) (accepted r sends Pending) (removed i (s .flight)) (s .delivered + 1) rows (range .0) (range .1)

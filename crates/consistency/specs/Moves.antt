@@ -19,7 +19,7 @@ use Rattle.replica.specs.declared.Replica.{Replica}
 use Rattle.replica.specs.declared.Sends.{Sends}
 use Rattle.replica.specs.declared.Sends.the-variants.{Nothing, Reply, Broadcast}
 use Rattle.replica.specs.Clock.{after}
-use Rattle.replica.specs.Handlers.{moved, stored, broadcastOf, replyOf}
+use Rattle.replica.specs.Handlers.{became, stored, broadcastOf, replyOf}
 use Rattle.tables.specs.declared.Row.{Row}
 use Rattle.state.specs.State.{State, replicaOf, rowOf}
 use Rattle.state.specs.Step.{readRow, writeRow, completed}
@@ -107,26 +107,26 @@ crashedAs c r =
     record { crashed = c; clock = r .clock; rid = r .rid; phase = r .phase; repliers = r .repliers; pairs = r .pairs }
 
 abbrev pub asking : Replica → ℕ → Replica
-asking r i = moved r (r .clock .0 + 1) (r .rid .0 + 1) (Querying i startPair) (r .repliers) (r .pairs)
+asking r i = became r (r .clock .0 + 1) (r .rid .0 + 1) (Querying i startPair) (r .repliers) (r .pairs)
 
 abbrev pub telling : Replica → ℕ → Pair → Replica
-telling r i pair = moved r (r .clock .0 + 1) (r .rid .0 + 1) (Updating i pair) (r .repliers) (r .pairs)
+telling r i pair = became r (r .clock .0 + 1) (r .rid .0 + 1) (Updating i pair) (r .repliers) (r .pairs)
 
 abbrev pub writtenPair : Replica → ℕ → ℤ → Pair
 writtenPair r p value = record { stamp = stampOf (r .clock .0 + 1) p; value = value }
 
 -- at another clock
 abbrev pub later : Replica → ℕ → List Pair → Replica
-later r clock pairs = moved r clock (r .rid .0) (r .phase) (r .repliers) pairs
+later r clock pairs = became r clock (r .rid .0) (r .phase) (r .repliers) pairs
 
 -- a reply was counted
 abbrev pub counting : State → Message → Phase → Replica
 counting s message phase =
-    moved (reached s message) (clockThen s message) (reached s message .rid .0) phase (repliersThen s message) (reached s message .pairs)
+    became (reached s message) (clockThen s message) (reached s message .rid .0) phase (repliersThen s message) (reached s message .pairs)
 
 -- the phase has ended: the set is emptied, and the next request number taken
 abbrev pub ending : State → Message → Phase → Replica
-ending s message phase = moved (reached s message) (clockThen s message) (reached s message .rid .0 + 1) phase 0 (reached s message .pairs)
+ending s message phase = became (reached s message) (clockThen s message) (reached s message .rid .0 + 1) phase 0 (reached s message .pairs)
 
 pub data Move (s t : State) : Type 0 where
   -- a crash, a loss, or a message that does not count

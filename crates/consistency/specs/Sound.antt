@@ -58,7 +58,7 @@ Above held r stamp time k = AtMost stamp (held k time (r .register))
 
 -- ---- a process
 
-pub record Sized (s : State) : Type 0 where
+pub record Shaped (s : State) : Type 0 where
   pub few : s .n ≤ 7
   pub registers : s .m ≤ 16
   pub seven : length (s .replicas) ≡ 7
@@ -89,16 +89,16 @@ pub record Telling (s : State) (held : Held) (q : ℕ) (r : Row) (sent : Pair) (
   pub written : r .kind ≡ Write → r .stamp ≡ sent .stamp
   pub asked : r .kind ≡ Read → Quorum (s .n) (Below s held r (sent .stamp))
 
-abbrev pub Numbered : State → ℕ → Type 0
-Numbered s i = (1 ≤ i) × (i ≤ length (s .rows))
+abbrev pub IsRow : State → ℕ → Type 0
+IsRow s i = (1 ≤ i) × (i ≤ length (s .rows))
 
 pub record Waits (s : State) (held : Held) (q : ℕ) : Type 0 where
   pub inside : Inside (s .n) (replicaOf s q .repliers)
   pub idle : replicaOf s q .phase ≡ Idle → replicaOf s q .repliers ≡ 0
   pub asking : (i : ℕ) (best : Pair) → replicaOf s q .phase ≡ Querying i best
-      → Numbered s i × Asking s held q (rowOf s i) best (replicaOf s q .repliers)
+      → IsRow s i × Asking s held q (rowOf s i) best (replicaOf s q .repliers)
   pub telling : (i : ℕ) (sent : Pair) → replicaOf s q .phase ≡ Updating i sent
-      → Numbered s i × Telling s held q (rowOf s i) sent (replicaOf s q .repliers)
+      → IsRow s i × Telling s held q (rowOf s i) sent (replicaOf s q .repliers)
 
 -- ---- a message in flight, by its body. `p` is the process whose request it is
 
@@ -193,7 +193,7 @@ pub record Turns (s : State) : Type 0 where
 -- ---- all of it
 
 pub record Sound (s : State) (held : Held) : Type 0 where
-  pub sized : Sized s
+  pub sized : Shaped s
   pub recalls : Recalls s held
   pub stores : (q : ℕ) → 1 ≤ q → Stores s q
   pub waits : (q : ℕ) → 1 ≤ q → Waits s held q

@@ -20,7 +20,7 @@ use Rattle.state.specs.Step.{completed}
 use Rattle.consistency.specs.Held.{Held, clockAt}
 use Rattle.consistency.specs.Moves.{Turn, own-phase, Move, Acks, clockThen}
 use Rattle.consistency.specs.Moves.Move.{rests, reads, writes, responds, stores, counts, chooses, gathers, completes}
-use Rattle.consistency.specs.Sound.{Sound, Numbered, Turns}
+use Rattle.consistency.specs.Sound.{Sound, IsRow, Turns}
 
 -- what `Turns` says, of rows and of what each process points to
 record Ordered (rows : List Row) (points : ℕ → ℕ) : Type 0 where
@@ -109,7 +109,7 @@ module _ {s : State} (t : State) {held : Held} (sound : Sound s held) where
       new : Row
       new = completed (rowOf s i) (record { 0 = clockThen s message }) sent
 
-      serves : Numbered s i × (rowOf s i .answered .0 ≡ 0)
+      serves : IsRow s i × (rowOf s i .answered .0 ≡ 0)
       serves =
           let w = sound .waits (message .to .0) (sound .flight message (a .flying) .to-first) .telling i sent (a .phase) in
           (w .0, w .1 .serves .pending)

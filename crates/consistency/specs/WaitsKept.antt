@@ -23,7 +23,7 @@ use Rattle.state.specs.Step.{completed}
 use Rattle.consistency.specs.Held.{Held, clockAt}
 use Rattle.consistency.specs.Moves.{Turn, Move, Acks, clockThen, repliersThen, writtenPair, own-clock, own-phase, own-repliers}
 use Rattle.consistency.specs.Moves.Move.{rests, reads, writes, responds, stores, counts, chooses, gathers, completes}
-use Rattle.consistency.specs.Sound.{Sound, Waits, Numbered, Asking, Telling}
+use Rattle.consistency.specs.Sound.{Sound, Waits, IsRow, Asking, Telling}
 use Rattle.consistency.specs.Kept.{Kept, asking-kept, telling-kept}
 use Rattle.consistency.specs.Begun.{last-row, written-source}
 use Rattle.consistency.specs.Counted.{asked-more, told-more, repliers-inside}
@@ -45,7 +45,7 @@ module _ (t : State) (after : Held) (p : ℕ) (r : Replica) (own : replicaOf t p
         telling = λ i sent f. let z : _≡_ {A = ℕ} 0 1 = cc in absurd (omega arith);
       }
 
-  now-asking : (i : ℕ) (best : Pair) (row : Row) → r .phase ≡ Querying i best → Numbered t i → rowOf t i ≡ row
+  now-asking : (i : ℕ) (best : Pair) (row : Row) → r .phase ≡ Querying i best → IsRow t i → rowOf t i ≡ row
       → Asking t after p row best (r .repliers) → Waits t after p
   now-asking i best row e n g a =
       let phase = ap (λ (r : Replica). r .phase) own in
@@ -54,12 +54,12 @@ module _ (t : State) (after : Held) (p : ℕ) (r : Replica) (own : replicaOf t p
         inside = rw repliers inside;
         idle = λ f. let z : _≡_ {A = ℕ} 0 1 = cc in absurd (omega arith);
         asking = λ j other f.
-            subst₂ (λ (j : ℕ) (other : Pair). Numbered t j × Asking t after p (rowOf t j) other (replicaOf t p .repliers)) (cc) (cc)
+            subst₂ (λ (j : ℕ) (other : Pair). IsRow t j × Asking t after p (rowOf t j) other (replicaOf t p .repliers)) (cc) (cc)
             (n, subst₂ (λ (row : Row) (set : ℕ). Asking t after p row best set) (sym g) (sym repliers) a);
         telling = λ j sent f. let z : _≡_ {A = ℕ} 0 1 = cc in absurd (omega arith);
       }
 
-  now-telling : (i : ℕ) (sent : Pair) (row : Row) → r .phase ≡ Updating i sent → Numbered t i → rowOf t i ≡ row
+  now-telling : (i : ℕ) (sent : Pair) (row : Row) → r .phase ≡ Updating i sent → IsRow t i → rowOf t i ≡ row
       → Telling t after p row sent (r .repliers) → Waits t after p
   now-telling i sent row e n g a =
       let phase = ap (λ (r : Replica). r .phase) own in
@@ -69,7 +69,7 @@ module _ (t : State) (after : Held) (p : ℕ) (r : Replica) (own : replicaOf t p
         idle = λ f. let z : _≡_ {A = ℕ} 0 1 = cc in absurd (omega arith);
         asking = λ j best f. let z : _≡_ {A = ℕ} 0 1 = cc in absurd (omega arith);
         telling = λ j other f.
-            subst₂ (λ (j : ℕ) (other : Pair). Numbered t j × Telling t after p (rowOf t j) other (replicaOf t p .repliers)) (cc) (cc)
+            subst₂ (λ (j : ℕ) (other : Pair). IsRow t j × Telling t after p (rowOf t j) other (replicaOf t p .repliers)) (cc) (cc)
             (n, subst₂ (λ (row : Row) (set : ℕ). Telling t after p row sent set) (sym g) (sym repliers) a);
       }
 
@@ -82,12 +82,12 @@ own-row sound message i sent a =
     sound .waits (message .to .0) (sound .flight message (a .flying) .to-first) .telling i sent (a .phase) .1 .serves .own
 
 module _ {s t : State} {held after : Held} (sound : Sound s held) (kept : Kept s held t after) where
-  numbered-kept : (i : ℕ) → Numbered s i → Numbered t i
+  numbered-kept : (i : ℕ) → IsRow s i → IsRow t i
   numbered-kept i n = let longer = kept .rows .longer in omega arith
 
   -- a process that waits for what it did, whose rows are as they were
   same-waits : (q : ℕ) → 1 ≤ q → replicaOf t q .phase ≡ replicaOf s q .phase → replicaOf t q .repliers ≡ replicaOf s q .repliers
-      → ((i : ℕ) → Numbered s i → rowOf s i .process .0 ≡ q → rowOf t i ≡ rowOf s i)
+      → ((i : ℕ) → IsRow s i → rowOf s i .process .0 ≡ q → rowOf t i ≡ rowOf s i)
       → Waits t after q
   same-waits q first phase repliers rows =
       let old = sound .waits q first in
@@ -107,7 +107,7 @@ module _ {s t : State} {held after : Held} (sound : Sound s held) (kept : Kept s
       }
 
   turn-waits : {p : ℕ} {r : Replica} {sends : Sends} {rows : List Row} → Turn s t p r sends rows
-      → ((i : ℕ) → Numbered s i → (rowOf s i .process .0 ≡ p → ⊥) → getD rows (i - 1) emptyRow ≡ rowOf s i)
+      → ((i : ℕ) → IsRow s i → (rowOf s i .process .0 ≡ p → ⊥) → getD rows (i - 1) emptyRow ≡ rowOf s i)
       → (1 ≤ p → Waits t after p)
       → (q : ℕ) → 1 ≤ q → Waits t after q
   turn-waits {p} turn rows own q first =
@@ -208,7 +208,7 @@ module _ {s t : State} {held after : Held} (sound : Sound s held) (kept : Kept s
           (told-more sound kept message clock i sent a)
   move-waits (completes message i sent a enough turn) = turn-waits turn rows own
     where
-      rows : (j : ℕ) → Numbered s j → (rowOf s j .process .0 ≡ message .to .0 → ⊥)
+      rows : (j : ℕ) → IsRow s j → (rowOf s j .process .0 ≡ message .to .0 → ⊥)
           → getD (set (s .rows) (i - 1) (completed (rowOf s i) (record { 0 = clockThen s message }) sent)) (j - 1) emptyRow ≡ rowOf s j
       rows j n f = getD-set-other (s .rows) (i - 1) (j - 1) _ emptyRow λ e. f (rw e (own-row sound message i sent a))
 

@@ -72,10 +72,10 @@ writePlan c p x value r =
     (acceptedPlan c p 0 answer (c .rows + 1) (writeRow p x value (answer .replica .clock .0)))
 
 -- the register that a querying replica asks for, which its row has; any other asks for none, and 1 stands in
-abbrev pub askedOf : Phase → Row → ℕ
-askedOf Idle row = 1
-askedOf (Querying number best) row = row .register
-askedOf (Updating number sent) row = 1
+abbrev pub registerAsked : Phase → Row → ℕ
+registerAsked Idle row = 1
+registerAsked (Querying number best) row = row .register
+registerAsked (Updating number sent) row = 1
 
 abbrev pub answerBy : Body → ℕ → ℕ → Replica → Message → Answer
 answerBy (Query x) n asked r message = queryReceived r (message .from) (message .time) (message .rid) x
@@ -98,7 +98,7 @@ rowBy (At time pair) row = completed row time pair
 unfoldable pub deliverPlan : Counters → Found → Message → Replica → Row → Plan
 deliverPlan c Missing message r row = refusedPlan (missingChecks c) r
 deliverPlan c (Place i) message r row =
-    let answer = answerTo (c .n) (askedOf (r .phase) row) r message in
+    let answer = answerTo (c .n) (registerAsked (r .phase) row) r message in
     settled (deliverChecks c (r .crashed) (sentBy (c .n) (answer .sends)) (answer .refusal)) r
     (acceptedPlan c (message .to .0) i answer (numberBy (answer .ended) (pointed (r .phase))) (rowBy (answer .ended) row))
 

@@ -1,6 +1,6 @@
 // The rows of the history: how one begins and how it is completed.
 ghost use mathlib.Core.Path.{_≡_};
-ghost use Rattle.decide.specs.Plan.{askedOf, numberBy, rowBy};
+ghost use Rattle.decide.specs.Plan.{registerAsked, numberBy, rowBy};
 ghost use Rattle.state.specs.Step.{readRow, writeRow, completed};
 use replica::Ended;
 use replica::Phase;
@@ -64,7 +64,7 @@ pub fn completed_row(row: Row, time: Time, pair: Pair) -> Row
 }
 
 pub fn asked_of(phase: Phase, row: Row) -> u8
-    ensures { λ r. ⌜ r ≡ askedOf phase row ⌝ }
+    ensures { λ r. ⌜ r ≡ registerAsked phase row ⌝ }
 {
     match phase {
         Phase::Idle => 1,

@@ -28,7 +28,7 @@ use Rattle.schedule.specs.Opening.{ranFile}
 use Rattle.facts.specs.Case.{Case, Hold, _by_also_}
 use Rattle.facts.specs.Events.{read, write, numbers, deliverable, writeAlone, afterWrite, readBehind, afterRead, writeOfTwo, afterCrash, twice}
 use Rattle.facts.specs.Crowded.{strays, crowded, asking, fourth, deciding}
-use Rattle.facts.specs.Situations.{pairOf, received, overtaken, pointsOf, sevenBytes}
+use Rattle.facts.specs.Situations.{pairOf, updateAnswer, overtaken, pointsOf, sevenBytes}
 
 abbrev pub P1 : Case
 P1 =
@@ -59,9 +59,9 @@ P4 =
     record {
       fact = "P4 an update with the stored stamp leaves the pair and is acked";
       says =
-          (received .refusal ≡ 0)
-          × (stored (received .replica) 1 ≡ pairOf (pos 7))
-          × (received .sends ≡ replyOf (record { 0 = 1 }) 10 5 Ack);
+          (updateAnswer .refusal ≡ 0)
+          × (stored (updateAnswer .replica) 1 ≡ pairOf (pos 7))
+          × (updateAnswer .sends ≡ replyOf (record { 0 = 1 }) 10 5 Ack);
     }
 
 abbrev pub P5 : Case

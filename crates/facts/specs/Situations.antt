@@ -16,7 +16,7 @@ use Rattle.state.specs.Step.{readRow, writeRow, completed}
 use Rattle.placing.specs.OneOrder.{listing, point, placed}
 use Rattle.order.specs.Operations.{operationsOf}
 
--- ---- P4
+-- ---- P4: one instance of `equal-update`, the law of every replica (`replica/specs/HandlerLaws.antt`)
 
 -- a value with the stamp (2, 3)
 abbrev pub pairOf : ℤ → Pair
@@ -35,8 +35,8 @@ holder =
     }
 
 -- it receives 8 with the same stamp, from process 1 at time 9, with request number 5
-abbrev pub received : Answer
-received = updateReceived holder (record { 0 = 1 }) (record { 0 = 9 }) (record { 0 = 5 }) 1 (pairOf (pos 8))
+abbrev pub updateAnswer : Answer
+updateAnswer = updateReceived holder (record { 0 = 1 }) (record { 0 = 9 }) (record { 0 = 5 }) 1 (pairOf (pos 8))
 
 -- ---- P11
 

@@ -12,18 +12,18 @@ use Rattle.format.specs.declared.Parse.{Parse}
 use Rattle.format.specs.declared.Parse.the-variants.{Next, Refused, End}
 use Rattle.format.specs.Format.{byteAt, wordAt, valueOf, whole, eventAt, parseRefusal}
 
-abbrev pub Numbered : Parse → Type 0
-Numbered x = (parseRefusal x ≡ 0) ⊎ ((parseRefusal x ≡ 6) ⊎ (parseRefusal x ≡ 7))
+abbrev pub ByNumber : Parse → Type 0
+ByNumber x = (parseRefusal x ≡ 0) ⊎ ((parseRefusal x ≡ 6) ⊎ (parseRefusal x ≡ 7))
 
-either : (b : Bool) (x y : Parse) → Numbered x → Numbered y → Numbered (cond b x y)
+either : (b : Bool) (x y : Parse) → ByNumber x → ByNumber y → ByNumber (cond b x y)
 either true x y f g = f
 either false x y f g = g
 
-whole-numbered : (bytes : List ℕ) (at size : ℕ) (event : Event) → Numbered (whole bytes at size event)
+whole-numbered : (bytes : List ℕ) (at size : ℕ) (event : Event) → ByNumber (whole bytes at size event)
 whole-numbered bytes at size event =
     either (leb (at + size) (length bytes)) (Next event (at + size)) (Refused 7) (inl refl) (inr (inr refl))
 
-pub numbered : (bytes : List ℕ) (at : ℕ) → Numbered (eventAt bytes at)
+pub numbered : (bytes : List ℕ) (at : ℕ) → ByNumber (eventAt bytes at)
 unfolding eventAt
 numbered bytes at =
     let kind = byteAt bytes at in

@@ -25,7 +25,7 @@ use Rattle.state.specs.Reached.{Reached}
 use Rattle.state.specs.Reached.Reached.{start, next}
 use Rattle.state.specs.Refusals.{accepted-counts-once}
 use Rattle.state.specs.ClockGrowth.{greatestOf, clockOf, timeOf, greatest}
-use Rattle.moves.specs.Move.{beginning, asking, begun, clockThen, replying, telling, received, downNow, Move}
+use Rattle.moves.specs.Move.{beginning, asking, begun, clockThen, replying, telling, arrived, downNow, Move}
 use Rattle.moves.specs.Move.Move.{reads, writes, responds, stores, discards, counts, chooses, gathers, completes, crashes, loses}
 use Rattle.moves.specs.MoveLaws.{moves}
 
@@ -91,7 +91,7 @@ module _ (s : State) where
       turned-below p (beginning s p phase) (asking s p request) (s .flight) (omega arith) (omega arith) (omega arith)
 
   received-below : (i : ℕ) (r : Replica) (sends : Sends) → r .clock .0 ≤ greatest s + 1 → sendingTime sends ≤ greatest s + 1
-      → greatest (received s i r sends (s .rows)) ≤ greatest s + 1
+      → greatest (arrived s i r sends (s .rows)) ≤ greatest s + 1
   received-below i r sends a b =
       turned-below (messageAt s i .to .0) r sends (removed i (s .flight)) a b
       (removed-below timeOf (greatest s + 1) i (s .flight) (omega arith))

@@ -29,7 +29,7 @@ use Rattle.moves.specs.Effect.{Effect, After}
 use Rattle.moves.specs.Effect.Effect.{kept, lost}
 use Rattle.moves.specs.Lists.{one, All, all-removed, countIf, count-removed}
 use Rattle.moves.specs.Move.{Begins, beginning, asking, begun, Delivers, Discarded, clockThen, repliersThen}
-use Rattle.moves.specs.Move.{hearing, counting, ending, replying, telling, received, downNow, Move}
+use Rattle.moves.specs.Move.{hearing, counting, ending, replying, telling, arrived, downNow, Move}
 use Rattle.moves.specs.Move.Move.{reads, writes, responds, stores, discards, counts, chooses, gathers, completes, crashes, loses}
 use Rattle.moves.specs.OfLaws.{of-asker, of-asked, of-rid, of-none, reply-asker, reply-asked, joined-other}
 use Rattle.moves.specs.Placed.{Ends, Placed}
@@ -76,7 +76,7 @@ module _ (s : State) (w : Placed s) (n : Numbered s) (k i count : ℕ) (d : Deli
 
   -- a request, and the reply to it in its place
   replied-after : (pairs : List Pair) (body : Body) → isReply (messageAt s i .body) ≡ false → isReply body ≡ true
-      → stageFor body ≡ stageFor (messageAt s i .body) → After s (received s i (hearing s i pairs) (replying s i body) (s .rows))
+      → stageFor body ≡ stageFor (messageAt s i .body) → After s (arrived s i (hearing s i pairs) (replying s i body) (s .rows))
   replied-after pairs body request reply for =
       stays-on s w (messageAt s i .to .0) (between .recipient) (hearing s i pairs) (replying s i body) (removed i (s .flight)) (s .delivered + 1) (s .rows)
       refl refl (λ e. e) rest-known
@@ -85,7 +85,7 @@ module _ (s : State) (w : Placed s) (n : Numbered s) (k i count : ℕ) (d : Deli
       (λ q j rid g. counts q j rid)
     where
       after : State
-      after = received s i (hearing s i pairs) (replying s i body) (s .rows)
+      after = arrived s i (hearing s i pairs) (replying s i body) (s .rows)
 
       new : Message
       new = messageOf (s .sent + 1) (messageAt s i .to .0) (messageAt s i .from .0) (letter (clockThen s i) (messageAt s i .rid .0) body)
@@ -103,7 +103,7 @@ module _ (s : State) (w : Placed s) (n : Numbered s) (k i count : ℕ) (d : Deli
     rest-left = record { known = rest-known; others = λ q j rid f. untouched q j rid (to-recipient q j rid f) }
 
     -- it does not count: it is of no exchange of the present number
-    discarded-after : Discarded s i → After s (received s i (recipientAt s i) Nothing (s .rows))
+    discarded-after : Discarded s i → After s (arrived s i (recipientAt s i) Nothing (s .rows))
     discarded-after c =
         stays-on s w (messageAt s i .to .0) (between .recipient) (recipientAt s i) Nothing (removed i (s .flight)) (s .delivered + 1) (s .rows) refl refl
         (λ e. e) rest-known (λ keep. tt)
@@ -117,7 +117,7 @@ module _ (s : State) (w : Placed s) (n : Numbered s) (k i count : ℕ) (d : Deli
 
     -- it counts, and more are needed: the exchange with its sender is from now on a counted reply
     counted-after : (phase : Phase) → messageAt s i .rid .0 ≡ recipientAt s i .rid .0 → stageOf phase ≡ stageOf (recipientAt s i .phase)
-        → After s (received s i (counting s i phase) Nothing (s .rows))
+        → After s (arrived s i (counting s i phase) Nothing (s .rows))
     counted-after phase present stage =
         stays-on s w a (between .recipient) (counting s i phase) Nothing (removed i (s .flight)) (s .delivered + 1) (s .rows) refl stage
         (λ e. e) rest-known (λ keep. tt) mine
@@ -152,7 +152,7 @@ module _ (s : State) (w : Placed s) (n : Numbered s) (k i count : ℕ) (d : Deli
             ]
 
     -- it ends the phase
-    ended-after : (phase : Phase) (sends : Sends) (rows : List Row) → Next (ending s i phase) sends → After s (received s i (ending s i phase) sends rows)
+    ended-after : (phase : Phase) (sends : Sends) (rows : List Row) → Next (ending s i phase) sends → After s (arrived s i (ending s i phase) sends rows)
     ended-after phase sends rows ok =
         goes-on s w (messageAt s i .to .0) (between .recipient) (ending s i phase) sends (removed i (s .flight)) (s .delivered + 1) rows
         rest-left refl refl (λ e. e) ok

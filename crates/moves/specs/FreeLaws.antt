@@ -28,7 +28,7 @@ use Rattle.state.specs.Reached.Reached.{start, next as after}
 use Rattle.state.specs.PairLaws.{within-ok, ok-within}
 use Rattle.moves.specs.Free.{freeInvoke, freeReceive, freeDeliver, freeStep, FreelyReached}
 use Rattle.moves.specs.Free.FreelyReached.{start as freely, next as then}
-use Rattle.moves.specs.Move.{Begins, Delivers, clockThen, ending, received as taken, Move}
+use Rattle.moves.specs.Move.{Begins, Delivers, clockThen, ending, arrived as taken, Move}
 use Rattle.moves.specs.Move.Move.{reads, writes, responds, stores, discards, counts, chooses, gathers, completes, crashes, loses}
 use Rattle.moves.specs.AnswerLaws.{answerAt, query-answer, update-answer, discards-answer}
 use Rattle.moves.specs.AnswerLaws.{counts-answer, chooses-answer, gathers-answer, completes-answer}

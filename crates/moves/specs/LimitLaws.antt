@@ -21,7 +21,7 @@ use Rattle.state.specs.declared.Event.{Event}
 use Rattle.state.specs.declared.Event.the-variants.{Read, Write, Deliver, Crash, Lose}
 use Rattle.state.specs.State.{State, replicaOf}
 use Rattle.state.specs.Step.{outcome, check, full, noRoom, invokeRefusal, deliverAt}
-use Rattle.state.specs.Step.{moved, received, readRow, writeRow}
+use Rattle.state.specs.Step.{moved, heard, readRow, writeRow}
 use Rattle.state.specs.Step.{step, stepRead, stepWrite, stepDeliver, stepCrash, stepLose}
 use Rattle.state.specs.Accepted.{messageAt, recipientAt, readNext, writeNext, crashNext, passed, Invoked}
 use Rattle.state.specs.Keeps.{reached-well-formed}
@@ -118,7 +118,7 @@ module _ (s : State) (w : Well s) (short : length (s .rows) ≤ 1024) (below : s
       inside : i < length (s .flight)
       inside = seek-at k (length (s .flight)) i (s .flight) (sym (ap (seek k 0) (take-length (s .flight)) ∙ f)) .0
 
-      plainly : recipientAt s i .crashed ≡ false → received s (recipientAt s i) (messageAt s i) ≡ answerAt s i
+      plainly : recipientAt s i .crashed ≡ false → heard s (recipientAt s i) (messageAt s i) ≡ answerAt s i
       plainly up = delivered-plain s w short i inside up
 
   pub agrees : (e : Event) → step s e ≡ freeStep s e

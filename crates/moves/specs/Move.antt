@@ -19,7 +19,7 @@ use Rattle.replica.specs.declared.Replica.{Replica}
 use Rattle.replica.specs.declared.Sends.{Sends}
 use Rattle.replica.specs.declared.Sends.the-variants.{Nothing}
 use Rattle.replica.specs.Clock.{after}
-use Rattle.replica.specs.Handlers.{accepted, broadcastOf, replyOf, stored, moved as placed}
+use Rattle.replica.specs.Handlers.{accepted, broadcastOf, replyOf, stored, became as placed}
 use Rattle.tables.specs.declared.Found.the-variants.{At}
 use Rattle.tables.specs.declared.Row.{Row}
 use Rattle.tables.specs.Tables.{seek, removed}
@@ -104,8 +104,8 @@ abbrev pub telling : State → ℕ → ℕ → Pair → Sends
 telling s i x pair = broadcastOf (clockThen s i) (recipientAt s i .rid .0 + 1) (Update x pair)
 
 -- the recipient becomes r and sends these, the message is taken off, and these are the rows
-abbrev pub received : State → ℕ → Replica → Sends → List Row → State
-received s i r sends rows =
+abbrev pub arrived : State → ℕ → Replica → Sends → List Row → State
+arrived s i r sends rows =
     moved s (messageAt s i .to .0) (accepted r sends Pending) (removed i (s .flight)) (s .delivered + 1) rows
 
 -- a response that counts for the operation in row `row`
@@ -145,27 +145,27 @@ pub data Move (s : State) : Event → State → Type 0 where
       (begun s (p .0) (Updating (newRow s) (writtenBy s (p .0) value)) (Update x (writtenBy s (p .0) value)) (writeRow (p .0) x value (nextClock s (p .0))))
   -- a query is replied to with the stored pair
   responds : (k i x : ℕ) → Delivers s k i 1 → messageAt s i .body ≡ Query x
-      → Move s (Deliver k) (received s i (hearing s i (recipientAt s i .pairs)) (replying s i (Response (stored (recipientAt s i) x))) (s .rows))
+      → Move s (Deliver k) (arrived s i (hearing s i (recipientAt s i .pairs)) (replying s i (Response (stored (recipientAt s i) x))) (s .rows))
   -- an update is stored where its stamp is greater, and acked
   stores : (k i x : ℕ) (pair : Pair) → Delivers s k i 1 → messageAt s i .body ≡ Update x pair
       → Move s (Deliver k)
-      (received s i (hearing s i (set (recipientAt s i .pairs) (x - 1) (newer (stored (recipientAt s i) x) pair))) (replying s i Ack) (s .rows))
+      (arrived s i (hearing s i (set (recipientAt s i .pairs) (x - 1) (newer (stored (recipientAt s i) x) pair))) (replying s i Ack) (s .rows))
   -- a reply that does not count is taken off, and nothing else changes
-  discards : (k i : ℕ) → Delivers s k i 0 → Discarded s i → Move s (Deliver k) (received s i (recipientAt s i) Nothing (s .rows))
+  discards : (k i : ℕ) → Delivers s k i 0 → Discarded s i → Move s (Deliver k) (arrived s i (recipientAt s i) Nothing (s .rows))
   -- a response is counted, and more are needed
   counts : (k i row : ℕ) (best pair : Pair) → Delivers s k i 0 → Responds s i row best pair → counted (repliersThen s i) < needed s (Querying row best)
-      → Move s (Deliver k) (received s i (counting s i (Querying row (newer best pair))) Nothing (s .rows))
+      → Move s (Deliver k) (arrived s i (counting s i (Querying row (newer best pair))) Nothing (s .rows))
   -- a response ends the query phase: the greatest pair is chosen, and all are told
   chooses : (k i row : ℕ) (best pair : Pair) → Delivers s k i (s .n) → Responds s i row best pair → needed s (Querying row best) ≤ counted (repliersThen s i)
       → Move s (Deliver k)
-      (received s i (ending s i (Updating row (newer best pair))) (telling s i (rowOf s row .register) (newer best pair)) (s .rows))
+      (arrived s i (ending s i (Updating row (newer best pair))) (telling s i (rowOf s row .register) (newer best pair)) (s .rows))
   -- an ack is counted, and more are needed
   gathers : (k i row : ℕ) (sent : Pair) → Delivers s k i 0 → Acks s i row sent → counted (repliersThen s i) < needed s (Updating row sent)
-      → Move s (Deliver k) (received s i (counting s i (Updating row sent)) Nothing (s .rows))
+      → Move s (Deliver k) (arrived s i (counting s i (Updating row sent)) Nothing (s .rows))
   -- an ack ends the update phase: the operation completes at this clock
   completes : (k i row : ℕ) (sent : Pair) → Delivers s k i 0 → Acks s i row sent → needed s (Updating row sent) ≤ counted (repliersThen s i)
       → Move s (Deliver k)
-      (received s i (ending s i Idle) Nothing (set (s .rows) (row - 1) (completed (rowOf s row) (record { 0 = clockThen s i }) sent)))
+      (arrived s i (ending s i Idle) Nothing (set (s .rows) (row - 1) (completed (rowOf s row) (record { 0 = clockThen s i }) sent)))
   -- a process crashes, and takes no further step
   crashes : (p : Pid) → Within (p .0) (s .n) → replicaOf s (p .0) .crashed ≡ false → Move s (Crash p) (crashedNow s (p .0))
   -- a message from or to a crashed process is lost

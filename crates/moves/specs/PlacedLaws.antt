@@ -37,7 +37,7 @@ use Rattle.moves.specs.Lists.{All, all-append, all-removed, all-at}
 use Rattle.moves.specs.Places.{own-after, other-after, fresh-replica}
 use Rattle.moves.specs.Needed.{needed}
 use Rattle.moves.specs.NeededLaws.{needed-same}
-use Rattle.moves.specs.Move.{Begins, beginning, asking, begun, Delivers, repliersThen, replying, telling, received, downNow, Move}
+use Rattle.moves.specs.Move.{Begins, beginning, asking, begun, Delivers, repliersThen, replying, telling, arrived, downNow, Move}
 use Rattle.moves.specs.Move.Move.{reads, writes, responds, stores, discards, counts, chooses, gathers, completes, crashes, loses}
 use Rattle.moves.specs.Free.{FreelyReached}
 use Rattle.moves.specs.FreeLaws.{freely-kept}
@@ -121,7 +121,7 @@ module _ (s : State) (w : Placed s) (k i count : ℕ) (d : Delivers s k i count)
   ends : Ends (s .n) (messageAt s i)
   ends = ends-at s w k i (d .found)
 
-  received-placed : (r : Replica) (sends : Sends) (rows : List Row) → Addressed (s .n) sends → SetFits s r → Placed (received s i r sends rows)
+  received-placed : (r : Replica) (sends : Sends) (rows : List Row) → Addressed (s .n) sends → SetFits s r → Placed (arrived s i r sends rows)
   received-placed r sends rows to set =
       turned s w (messageAt s i .to .0) (ends .recipient) r sends (removed i (s .flight)) (s .delivered + 1) rows to
       (all-removed (Ends (s .n)) i (s .flight) (w .messages)) set

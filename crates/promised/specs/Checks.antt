@@ -17,7 +17,7 @@ use Rattle.state.specs.declared.Bench.{Bench}
 use Rattle.state.specs.declared.Event.{Event}
 use Rattle.state.specs.declared.Event.the-variants.{Read, Write, Deliver, Crash, Lose}
 use Rattle.state.specs.State.{State, replicaOf, view}
-use Rattle.state.specs.Step.{full, noRoom, received}
+use Rattle.state.specs.Step.{full, noRoom, heard}
 use Rattle.state.specs.Tabled.{tabled, lengthsFit}
 use Rattle.format.specs.Format.{byteAt, wordAt}
 
@@ -42,7 +42,7 @@ invocationChecks s p x =
 
 -- what would be in flight after a delivery: one message fewer, and what its recipient then sends
 abbrev pub flightAfter : State → Replica → Message → ℕ
-flightAfter s recipient message = length (s .flight) - 1 + sentBy (s .n) (received s recipient message .sends)
+flightAfter s recipient message = length (s .flight) - 1 + sentBy (s .n) (heard s recipient message .sends)
 
 abbrev pub deliveryChecks : State → Found → List Check
 deliveryChecks s Missing = (12, true) ∷ []

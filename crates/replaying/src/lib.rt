@@ -24,7 +24,7 @@ const ROWS: usize = 1024;
 pub const LONGEST_TEXT: usize = 81563;
 
 // The run of a file over a history; the table of messages is needed no longer than the run.
-fn run_history(rows: &mut [Row], bytes: &[u8]) -> Stepped
+pub fn run_history(rows: &mut [Row], bytes: &[u8]) -> Stepped
     ensures { λ r. ⌜ (r ≡ runReply 512 (length (now (rows .entry))) (now (bytes .entry))) × (now (rows .exit) ≡ rowsLeft (now (bytes .entry)) (now (rows .entry))) ⌝ }
 {
     let mut messages = [empty_message(); MESSAGES];

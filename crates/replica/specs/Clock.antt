@@ -12,5 +12,5 @@ abbrev pub afterTime : Time → Time → Time
 afterTime own sent = record { 0 = after (own .0) (sent .0) }
 
 -- and of a clock, and the time that a message bears
-abbrev pub received : Clock → Time → Clock
-received clock time = record { time = afterTime (clock .time) time }
+abbrev pub clockAfter : Clock → Time → Clock
+clockAfter clock time = record { time = afterTime (clock .time) time }

@@ -19,7 +19,7 @@ use Rattle.replica.specs.declared.Ended.the-variants.{Pending}
 use Rattle.words.specs.declared.Body.the-variants.{Ack}
 use Rattle.replica.specs.Clock.{after}
 use Rattle.replica.specs.Handlers.{
-  moved,
+  became,
   replyOf,
   accepted,
   stored,
@@ -54,7 +54,7 @@ use Rattle.replica.specs.Handlers.{
   crashed,
 }
 use Rattle.words.specs.Ranges.{within, pairFits, senderFits, repliersFit}
-use Rattle.replica.specs.Ranges.{replicaFits}
+use Rattle.replica.specs.Ranges.{replicaInside}
 use Rattle.words.specs.RangeLaws.{and-left, and-right, and-unless}
 use Rattle.words.specs.Stamps.{startPair}
 use Rattle.words.specs.StampLaws.{AtMost, newer-kept, atMost-reflexive}
@@ -90,23 +90,23 @@ picks-second test a b e = simp e
 
 -- ---- what is accepted was inside the ranges
 
-pub read-inside : (r : Replica) (x row : ℕ) → {m : ℕ} → m ≡ readRefusal r x row → m ≡ 0 → replicaFits 7 r ≡ true
+pub read-inside : (r : Replica) (x row : ℕ) → {m : ℕ} → m ≡ readRefusal r x row → m ≡ 0 → replicaInside 7 r ≡ true
 unfolding readRefusal
 read-inside r x row is e = and-left _ _ (and-left _ _ (begin-inside _ _ _ (sym is ∙ e)))
 
-pub write-inside : (r : Replica) (me : Pid) (x row : ℕ) → {m : ℕ} → m ≡ writeRefusal r me x row → m ≡ 0 → replicaFits 7 r ≡ true
+pub write-inside : (r : Replica) (me : Pid) (x row : ℕ) → {m : ℕ} → m ≡ writeRefusal r me x row → m ≡ 0 → replicaInside 7 r ≡ true
 unfolding writeRefusal
 write-inside r me x row is e = and-left _ _ (and-left _ _ (and-left _ _ (begin-inside _ _ _ (sym is ∙ e))))
 
 abbrev pub RequestInside : Replica → Pid → Time → Rid → ℕ → Type 0
-RequestInside r from time rid x = (replicaFits 7 r ≡ true) × (senderFits 7 from time rid ≡ true) × (within x 16 ≡ true)
+RequestInside r from time rid x = (replicaInside 7 r ≡ true) × (senderFits 7 from time rid ≡ true) × (within x 16 ≡ true)
 
 request-inside : (r : Replica) (from : Pid) (time : Time) (rid : Rid) (x : ℕ) → requestFits r from time rid x ≡ true → RequestInside r from time rid x
 request-inside r from time rid x e =
-    let both : (replicaFits 7 r && senderFits 7 from time rid) ≡ true = and-left _ (storedFits r x) e in (
-      and-left (replicaFits 7 r) (senderFits 7 from time rid) both,
-      and-right (replicaFits 7 r) (senderFits 7 from time rid) both,
-      and-left (within x 16) _ (and-right (replicaFits 7 r && senderFits 7 from time rid) (storedFits r x) e),
+    let both : (replicaInside 7 r && senderFits 7 from time rid) ≡ true = and-left _ (storedFits r x) e in (
+      and-left (replicaInside 7 r) (senderFits 7 from time rid) both,
+      and-right (replicaInside 7 r) (senderFits 7 from time rid) both,
+      and-left (within x 16) _ (and-right (replicaInside 7 r && senderFits 7 from time rid) (storedFits r x) e),
     )
 
 pub query-inside : (r : Replica) (from : Pid) (time : Time) (rid : Rid) (x : ℕ) → {m : ℕ} → m ≡ queryRefusal r from time rid x → m ≡ 0 → RequestInside r from time rid x
@@ -119,12 +119,12 @@ update-inside r from time rid x pair is e =
     request-inside r from time rid x (and-left (requestFits r from time rid x) (pairFits 12000 7 pair) (down-inside _ _ _ (sym is ∙ e)))
 
 abbrev pub ReplyInside : Replica → ℕ → Pid → Time → Rid → Type 0
-ReplyInside r n from time rid = (replicaFits n r ≡ true) × (senderFits n from time rid ≡ true)
+ReplyInside r n from time rid = (replicaInside n r ≡ true) × (senderFits n from time rid ≡ true)
 
 reply-inside : (r : Replica) (n : ℕ) (from : Pid) (time : Time) (rid : Rid) → replyFits r n from time rid ≡ true → ReplyInside r n from time rid
 reply-inside r n from time rid e =
-    let both : (replicaFits n r && senderFits n from time rid) ≡ true = and-left _ (within n 7) e in
-    (and-left (replicaFits n r) (senderFits n from time rid) both, and-right (replicaFits n r) (senderFits n from time rid) both)
+    let both : (replicaInside n r && senderFits n from time rid) ≡ true = and-left _ (within n 7) e in
+    (and-left (replicaInside n r) (senderFits n from time rid) both, and-right (replicaInside n r) (senderFits n from time rid) both)
 
 pub response-inside : (r : Replica) (n x : ℕ) (from : Pid) (time : Time) (rid : Rid) (pair : Pair) → {m : ℕ} → m ≡ responseRefusal r n x from time rid pair → m ≡ 0 → ReplyInside r n from time rid
 unfolding responseRefusal
@@ -146,11 +146,11 @@ down-accepts : (number : ℕ) (fits crashed : Bool) → fits ≡ true → crashe
 unfolding downRefusal
 down-accepts number fits crashed e f = simp (e, f)
 
-pub read-is-rule : (r : Replica) (x row : ℕ) → (replicaFits 7 r && within x 16 && within row 1024) ≡ true → r .crashed ≡ false → isIdle (r .phase) ≡ true → readBegun r x row ≡ readRule r x row
+pub read-is-rule : (r : Replica) (x row : ℕ) → (replicaInside 7 r && within x 16 && within row 1024) ≡ true → r .crashed ≡ false → isIdle (r .phase) ≡ true → readBegun r x row ≡ readRule r x row
 unfolding readBegun readRefusal
 read-is-rule r x row e f g = sym (rule-by _ _ r _ refl (begin-accepts _ _ _ e f g))
 
-pub write-is-rule : (r : Replica) (me : Pid) (x : ℕ) (value : ℤ) (row : ℕ) → (replicaFits 7 r && within (me .0) 7 && within x 16 && within row 1024) ≡ true → r .crashed ≡ false → isIdle (r .phase) ≡ true → writeBegun r me x value row ≡ writeRule r me x value row
+pub write-is-rule : (r : Replica) (me : Pid) (x : ℕ) (value : ℤ) (row : ℕ) → (replicaInside 7 r && within (me .0) 7 && within x 16 && within row 1024) ≡ true → r .crashed ≡ false → isIdle (r .phase) ≡ true → writeBegun r me x value row ≡ writeRule r me x value row
 unfolding writeBegun writeRefusal
 write-is-rule r me x value row e f g = sym (rule-by _ _ r _ refl (begin-accepts _ _ _ e f g))
 
@@ -170,7 +170,7 @@ pub ack-is-rule : (r : Replica) (n : ℕ) (from : Pid) (time : Time) (rid : Rid)
 unfolding ackReceived ackRefusal
 ack-is-rule r n from time rid e f = sym (rule-by _ _ r _ refl (down-accepts 13 _ _ e f))
 
-pub crash-is-rule : (r : Replica) → replicaFits 7 r ≡ true → r .crashed ≡ false → crashed r ≡ crashRule r
+pub crash-is-rule : (r : Replica) → replicaInside 7 r ≡ true → r .crashed ≡ false → crashed r ≡ crashRule r
 unfolding crashed crashRefusal
 crash-is-rule r e f = sym (rule-by _ _ r _ refl (down-accepts 10 _ _ e f))
 
@@ -202,14 +202,14 @@ module _ (r : Replica) (n : ℕ) (from : Pid) (time : Time) (rid : Rid) (strange
 abbrev pub onlyAcked : Replica → Pid → Time → Rid → Answer
 onlyAcked r from time rid =
     let clock = after (r .clock .0) (time .0) in
-    accepted (moved r clock (r .rid .0) (r .phase) (r .repliers) (r .pairs)) (replyOf from clock (rid .0) Ack) Pending
+    accepted (became r clock (r .rid .0) (r .phase) (r .repliers) (r .pairs)) (replyOf from clock (rid .0) Ack) Pending
 
 module _ (r : Replica) (from : Pid) (time : Time) (rid : Rid) (x : ℕ) (pair : Pair) (fits : (requestFits r from time rid x && pairFits 12000 7 pair) ≡ true) (up : r .crashed ≡ false) where
   pub old-update : AtMost (pair .stamp) (stored r x .stamp) → updateReceived r from time rid x pair ≡ onlyAcked r from time rid
   unfolding updateRule
   old-update old =
       update-is-rule r from time rid x pair fits up
-      ∙ ap (λ (pairs : List Pair). accepted (moved r (after (r .clock .0) (time .0)) (r .rid .0) (r .phase) (r .repliers) pairs) (replyOf from (after (r .clock .0) (time .0)) (rid .0) Ack) Pending)
+      ∙ ap (λ (pairs : List Pair). accepted (became r (after (r .clock .0) (time .0)) (r .rid .0) (r .phase) (r .repliers) pairs) (replyOf from (after (r .clock .0) (time .0)) (rid .0) Ack) Pending)
       (ap (set (r .pairs) (x - 1)) (newer-kept (stored r x) pair old) ∙ set-getD (r .pairs) (x - 1) startPair)
 
   pub equal-update : pair .stamp ≡ stored r x .stamp → updateReceived r from time rid x pair ≡ onlyAcked r from time rid

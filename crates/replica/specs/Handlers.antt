@@ -27,14 +27,14 @@ use Rattle.replica.specs.declared.Counts.the-variants.{Not, For}
 use Rattle.replica.specs.Clock.{after}
 use Rattle.words.specs.Quorum.{joined, counted, majorityOf}
 use Rattle.words.specs.Ranges.{within, pairFits, senderFits}
-use Rattle.replica.specs.Ranges.{replicaFits}
+use Rattle.replica.specs.Ranges.{replicaInside}
 use Rattle.words.specs.Stamps.{stampOf, startPair, newer}
 
 -- ---- what a handler answers
 
 -- the replica at another clock, request number, phase, replier set and store; up or crashed as it was
-abbrev pub moved : Replica → ℕ → ℕ → Phase → ℕ → List Pair → Replica
-moved r clock rid phase repliers pairs =
+abbrev pub became : Replica → ℕ → ℕ → Phase → ℕ → List Pair → Replica
+became r clock rid phase repliers pairs =
     record {
       crashed = r .crashed;
       clock = record { 0 = clock };
@@ -71,7 +71,7 @@ unfoldable pub readRule : Replica → ℕ → ℕ → Answer
 readRule r x row =
     let clock = r .clock .0 + 1 in
     let rid = r .rid .0 + 1 in
-    accepted (moved r clock rid (Querying row startPair) (r .repliers) (r .pairs)) (broadcastOf clock rid (Query x)) Pending
+    accepted (became r clock rid (Querying row startPair) (r .repliers) (r .pairs)) (broadcastOf clock rid (Query x)) Pending
 
 -- Write by p of v to x: clock + 1; stamp = (clock, p); request number + 1; broadcast update. The local copy does not change
 unfoldable pub writeRule : Replica → Pid → ℕ → ℤ → ℕ → Answer
@@ -79,20 +79,20 @@ writeRule r me x value row =
     let clock = r .clock .0 + 1 in
     let rid = r .rid .0 + 1 in
     let pair : Pair = record { stamp = stampOf clock (me .0); value = value } in
-    accepted (moved r clock rid (Updating row pair) (r .repliers) (r .pairs)) (broadcastOf clock rid (Update x pair)) Pending
+    accepted (became r clock rid (Updating row pair) (r .repliers) (r .pairs)) (broadcastOf clock rid (Update x pair)) Pending
 
 -- A query is replied to with the stored pair. Replies bear the request's number and the new clock
 unfoldable pub queryRule : Replica → Pid → Time → Rid → ℕ → Answer
 queryRule r from time rid x =
     let clock = after (r .clock .0) (time .0) in
-    accepted (moved r clock (r .rid .0) (r .phase) (r .repliers) (r .pairs)) (replyOf from clock (rid .0) (Response (stored r x))) Pending
+    accepted (became r clock (r .rid .0) (r .phase) (r .repliers) (r .pairs)) (replyOf from clock (rid .0) (Response (stored r x))) Pending
 
 -- An update replaces the stored pair only if its stamp is greater, and is acked in either case
 unfoldable pub updateRule : Replica → Pid → Time → Rid → ℕ → Pair → Answer
 updateRule r from time rid x pair =
     let clock = after (r .clock .0) (time .0) in
     accepted
-    (moved r clock (r .rid .0) (r .phase) (r .repliers) (set (r .pairs) (x - 1) (newer (stored r x) pair)))
+    (became r clock (r .rid .0) (r .phase) (r .repliers) (set (r .pairs) (x - 1) (newer (stored r x) pair)))
     (replyOf from clock (rid .0) Ack)
     Pending
 
@@ -105,8 +105,8 @@ responseCounted r n x from time row best =
     let repliers = joined (r .repliers) (from .0) in
     cond
     (leb (majorityOf n) (counted repliers))
-    (accepted (moved r clock rid (Updating row best) 0 (r .pairs)) (broadcastOf clock rid (Update x best)) Pending)
-    (accepted (moved r clock (r .rid .0) (Querying row best) repliers (r .pairs)) Nothing Pending)
+    (accepted (became r clock rid (Updating row best) 0 (r .pairs)) (broadcastOf clock rid (Update x best)) Pending)
+    (accepted (became r clock (r .rid .0) (Querying row best) repliers (r .pairs)) Nothing Pending)
 
 -- An ack that counts. The one that makes a majority: the set is emptied, request number + 1, the operation completes at this clock
 unfoldable pub ackCounted : Replica → ℕ → Pid → Time → ℕ → Pair → Answer
@@ -116,8 +116,8 @@ ackCounted r n from time row sent =
     let repliers = joined (r .repliers) (from .0) in
     cond
     (leb (majorityOf n) (counted repliers))
-    (accepted (moved r clock rid Idle 0 (r .pairs)) Nothing (At (record { 0 = clock }) sent))
-    (accepted (moved r clock (r .rid .0) (Updating row sent) repliers (r .pairs)) Nothing Pending)
+    (accepted (became r clock rid Idle 0 (r .pairs)) Nothing (At (record { 0 = clock }) sent))
+    (accepted (became r clock (r .rid .0) (Updating row sent) repliers (r .pairs)) Nothing Pending)
 
 -- A response counts only while the replica is querying, and only with the present request number
 abbrev pub responseCounts : Phase → Rid → Rid → Counts
@@ -183,13 +183,13 @@ downRefusal number fits crashed = cond fits (cond crashed number 0) 18
 
 -- a read is begun inside the ranges, by a replica that is up and idle
 unfoldable pub readRefusal : Replica → ℕ → ℕ → ℕ
-readRefusal r x row = beginRefusal (replicaFits 7 r && within x 16 && within row 1024) (r .crashed) (isIdle (r .phase))
+readRefusal r x row = beginRefusal (replicaInside 7 r && within x 16 && within row 1024) (r .crashed) (isIdle (r .phase))
 
 unfoldable pub readBegun : Replica → ℕ → ℕ → Answer
 readBegun r x row = unlessRefused (readRefusal r x row) r (readRule r x row)
 
 unfoldable pub writeRefusal : Replica → Pid → ℕ → ℕ → ℕ
-writeRefusal r me x row = beginRefusal (replicaFits 7 r && within (me .0) 7 && within x 16 && within row 1024) (r .crashed) (isIdle (r .phase))
+writeRefusal r me x row = beginRefusal (replicaInside 7 r && within (me .0) 7 && within x 16 && within row 1024) (r .crashed) (isIdle (r .phase))
 
 unfoldable pub writeBegun : Replica → Pid → ℕ → ℤ → ℕ → Answer
 writeBegun r me x value row = unlessRefused (writeRefusal r me x row) r (writeRule r me x value row)
@@ -199,7 +199,7 @@ abbrev pub storedFits : Replica → ℕ → Bool
 storedFits r x = within x 16 && pairFits 12000 7 (stored r x)
 
 abbrev pub requestFits : Replica → Pid → Time → Rid → ℕ → Bool
-requestFits r from time rid x = replicaFits 7 r && senderFits 7 from time rid && storedFits r x
+requestFits r from time rid x = replicaInside 7 r && senderFits 7 from time rid && storedFits r x
 
 unfoldable pub queryRefusal : Replica → Pid → Time → Rid → ℕ → ℕ
 queryRefusal r from time rid x = downRefusal 13 (requestFits r from time rid x) (r .crashed)
@@ -215,7 +215,7 @@ updateReceived r from time rid x pair = unlessRefused (updateRefusal r from time
 
 -- a reply is counted, so here N is known: the sender is one of 1..N, and so are those that replied before it
 abbrev pub replyFits : Replica → ℕ → Pid → Time → Rid → Bool
-replyFits r n from time rid = replicaFits n r && senderFits n from time rid && within n 7
+replyFits r n from time rid = replicaInside n r && senderFits n from time rid && within n 7
 
 unfoldable pub responseRefusal : Replica → ℕ → ℕ → Pid → Time → Rid → Pair → ℕ
 responseRefusal r n x from time rid pair = downRefusal 13 (replyFits r n from time rid && within x 16 && pairFits 12000 7 pair) (r .crashed)
@@ -231,7 +231,7 @@ unfoldable pub ackReceived : Replica → ℕ → Pid → Time → Rid → Answer
 ackReceived r n from time rid = unlessRefused (ackRefusal r n from time rid) r (ackRule r n from time rid)
 
 unfoldable pub crashRefusal : Replica → ℕ
-crashRefusal r = downRefusal 10 (replicaFits 7 r) (r .crashed)
+crashRefusal r = downRefusal 10 (replicaInside 7 r) (r .crashed)
 
 unfoldable pub crashed : Replica → Answer
 crashed r = unlessRefused (crashRefusal r) r (crashRule r)

@@ -1,7 +1,9 @@
+-- What a reader has to believe
 pub mod Clock
-pub mod ClockLaws
-pub mod Handlers
-pub mod HandlerLaws
-pub mod Numbers
 pub mod Ranges
+pub mod Handlers
+pub mod Numbers
+-- Laws
+pub mod ClockLaws
 pub mod RangeLaws
+pub mod HandlerLaws

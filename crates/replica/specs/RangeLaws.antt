@@ -6,9 +6,9 @@ use lib.Dec.{leb}
 use borrow.Author.Tests.{leb-true}
 use Rattle.words.specs.RangeLaws.{and-left, and-right}
 use Rattle.replica.specs.declared.Replica.{Replica}
-use Rattle.replica.specs.Ranges.{replicaFits}
+use Rattle.replica.specs.Ranges.{replicaInside}
 
-module _ (n : ℕ) (r : Replica) (fits : replicaFits n r ≡ true) where
+module _ (n : ℕ) (r : Replica) (fits : replicaInside n r ≡ true) where
   pub fits-clock : r .clock .0 ≤ 12000
   fits-clock = leb-true _ _ (and-left _ _ (and-left _ _ (and-left _ _ fits)))
 

@@ -12,11 +12,11 @@ use Rattle.replica.specs.declared.Replica.{Replica}
 abbrev pub waitFits : ℕ → Pair → Bool
 waitFits row pair = within row 1024 && pairFits 12000 7 pair
 
-abbrev pub phaseFits : Phase → Bool
-phaseFits Idle = true
-phaseFits (Querying row best) = waitFits row best
-phaseFits (Updating row sent) = waitFits row sent
+abbrev pub phaseInside : Phase → Bool
+phaseInside Idle = true
+phaseInside (Querying row best) = waitFits row best
+phaseInside (Updating row sent) = waitFits row sent
 
 -- what every handler works with: the clock, the request number, the replier set of n processes, the phase
-abbrev pub replicaFits : ℕ → Replica → Bool
-replicaFits n r = leb (r .clock .0) 12000 && leb (r .rid .0) 24000 && repliersFit n (r .repliers) && phaseFits (r .phase)
+abbrev pub replicaInside : ℕ → Replica → Bool
+replicaInside n r = leb (r .clock .0) 12000 && leb (r .rid .0) 24000 && repliersFit n (r .repliers) && phaseInside (r .phase)

@@ -2,7 +2,7 @@
 // compared with a clock. The handlers call `after_receiving`.
 ghost use mathlib.Core.Path.{_≡_};
 ghost use Prim.Native.Nat.{_<_};
-ghost use Rattle.replica.specs.Clock.{afterTime, received};
+ghost use Rattle.replica.specs.Clock.{afterTime, clockAfter};
 use words::Time;
 
 pub struct Clock {
@@ -24,7 +24,7 @@ fn later(own: Time, sent: Time) -> Time
 // A clock that is lent goes by the rule.
 pub fn receive(clock: &mut Clock, time: Time)
     requires { ⌜ (now clock .time .0 < 65535) × (time .0 < 65535) ⌝ }
-    ensures { λ _. ⌜ now (clock .exit) ≡ received (now (clock .entry)) time ⌝ }
+    ensures { λ _. ⌜ now (clock .exit) ≡ clockAfter (now (clock .entry)) time ⌝ }
 {
     let own = clock.time;
     clock.time = later(own, time);

@@ -1,6 +1,6 @@
 // What every handler works with, inside document 01's ranges.
 ghost use mathlib.Core.Path.{_≡_};
-ghost use Rattle.replica.specs.Ranges.{waitFits, phaseFits, replicaFits};
+ghost use Rattle.replica.specs.Ranges.{waitFits, phaseInside, replicaInside};
 use crate::Phase;
 use crate::Replica;
 use words::Pair;
@@ -14,7 +14,7 @@ fn wait_fits(row: u16, pair: Pair) -> bool
 }
 
 fn phase_fits(phase: Phase) -> bool
-    ensures { λ r. ⌜ r ≡ phaseFits phase ⌝ }
+    ensures { λ r. ⌜ r ≡ phaseInside phase ⌝ }
 {
     match phase {
         Phase::Idle => true,
@@ -25,7 +25,7 @@ fn phase_fits(phase: Phase) -> bool
 
 // The numbers that every handler works with. `n`: of how many processes the repliers may be.
 pub fn replica_fits(n: u8, r: Replica) -> bool
-    ensures { λ b. ⌜ b ≡ replicaFits n r ⌝ }
+    ensures { λ b. ⌜ b ≡ replicaInside n r ⌝ }
 {
     let phase = r.phase;
     (r.clock.0 <= ranges::EVENTS)

@@ -3,7 +3,7 @@
 ghost use mathlib.Core.Path.{_≡_};
 ghost use Prim.Native.Nat.{_≤_, _-_};
 ghost use lib.ListN.{set};
-ghost use Rattle.replica.specs.Handlers.{moved, stored};
+ghost use Rattle.replica.specs.Handlers.{became, stored};
 ghost use Rattle.words.specs.Stamps.{startPair};
 use crate::Phase;
 use crate::Replica;
@@ -23,7 +23,7 @@ pub fn pair_of(r: Replica, register: u8) -> Pair
 
 pub fn with_pair(r: Replica, clock: Time, register: u8, pair: Pair) -> Replica
     requires { ⌜ (1 ≤ register) × (register ≤ 16) ⌝ }
-    ensures { λ s. ⌜ s ≡ moved r (clock .0) (r .rid .0) (r .phase) (r .repliers) (set (r .pairs) (register - 1) pair) ⌝ }
+    ensures { λ s. ⌜ s ≡ became r (clock .0) (r .rid .0) (r .phase) (r .repliers) (set (r .pairs) (register - 1) pair) ⌝ }
 {
     let at = (register - 1) as usize;
     let mut next = r;
@@ -45,7 +45,7 @@ pub fn start_pair() -> Pair
 }
 
 pub fn move_to(r: Replica, clock: Time, rid: Rid, phase: Phase, repliers: u8) -> Replica
-    ensures { λ s. ⌜ s ≡ moved r (clock .0) (rid .0) phase repliers (r .pairs) ⌝ }
+    ensures { λ s. ⌜ s ≡ became r (clock .0) (rid .0) phase repliers (r .pairs) ⌝ }
 {
     let pairs = r.pairs;
     Replica {

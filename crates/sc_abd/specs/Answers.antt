@@ -20,7 +20,7 @@ use Rattle.replica.specs.declared.Phase.the-variants.{Idle, Querying, Updating}
 use Rattle.replica.specs.declared.Replica.{Replica}
 use Rattle.replica.specs.declared.Sends.the-variants.{Nothing}
 use Rattle.replica.specs.Clock.{after}
-use Rattle.replica.specs.Handlers.{moved, accepted, discarded, broadcastOf, queryRule, updateRule}
+use Rattle.replica.specs.Handlers.{became, accepted, discarded, broadcastOf, queryRule, updateRule}
 use Rattle.replica.specs.Handlers.{responseCounts, responseCounted, responseTaken, responseRule, ackCounts, ackCounted, ackTaken, ackRule}
 use Rattle.state.specs.State.{State}
 use Rattle.state.specs.Step.{askedRegister}
@@ -35,22 +35,22 @@ abbrev pub chosen : Replica → ℕ → Time → ℕ → Pair → Answer
 chosen r x time row best =
     let clock = after (r .clock .0) (time .0) in
     let rid = r .rid .0 + 1 in
-    accepted (moved r clock rid (Updating row best) 0 (r .pairs)) (broadcastOf clock rid (Update x best)) Pending
+    accepted (became r clock rid (Updating row best) 0 (r .pairs)) (broadcastOf clock rid (Update x best)) Pending
 
 -- the operation completes
 abbrev pub ended : Replica → Time → Pair → Answer
 ended r time sent =
     let clock = after (r .clock .0) (time .0) in
-    accepted (moved r clock (r .rid .0 + 1) Idle 0 (r .pairs)) Nothing (At (record { 0 = clock }) sent)
+    accepted (became r clock (r .rid .0 + 1) Idle 0 (r .pairs)) Nothing (At (record { 0 = clock }) sent)
 
 -- the sender is counted
 abbrev pub asking : Replica → Pid → Time → ℕ → Pair → Answer
 asking r from time row best =
-    accepted (moved r (after (r .clock .0) (time .0)) (r .rid .0) (Querying row best) (joined (r .repliers) (from .0)) (r .pairs)) Nothing Pending
+    accepted (became r (after (r .clock .0) (time .0)) (r .rid .0) (Querying row best) (joined (r .repliers) (from .0)) (r .pairs)) Nothing Pending
 
 abbrev pub waiting : Replica → Pid → Time → ℕ → Pair → Answer
 waiting r from time row sent =
-    accepted (moved r (after (r .clock .0) (time .0)) (r .rid .0) (Updating row sent) (joined (r .repliers) (from .0)) (r .pairs)) Nothing Pending
+    accepted (became r (after (r .clock .0) (time .0)) (r .rid .0) (Updating row sent) (joined (r .repliers) (from .0)) (r .pairs)) Nothing Pending
 
 pub response-answers : (r : Replica) (n x : ℕ) (from : Pid) (time : Time) (row : ℕ) (best : Pair)
     → responseCounted r n x from time row best ≡ cond (isMajority n r from) (chosen r x time row best) (asking r from time row best)

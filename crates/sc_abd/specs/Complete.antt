@@ -20,7 +20,7 @@ use Rattle.state.specs.PairLaws.{Within, within-ok}
 use Rattle.state.specs.WellLaws.{Well}
 use Rattle.sc_abd.specs.System.{Call, System, Action, Enabled, without, onArrival, outstanding, taken}
 use Rattle.sc_abd.specs.Same.{packetOf, operationOf, Same}
-use Rattle.sc_abd.specs.Demand2.{Names, registerOf, Within as Limited}
+use Rattle.sc_abd.specs.Demand2.{Names, registerOf, WithinLimits as Limited}
 use Rattle.sc_abd.specs.Allowed.{done, read-allowed, write-allowed, deliver-allowed, crash-allowed, lose-allowed}
 use Rattle.sc_abd.specs.AsMany.{as-many-messages}
 use Rattle.sc_abd.specs.Idle.{idle-outstanding}

@@ -29,15 +29,15 @@ registerOf (Call.WRITE r v) = r
 
 -- within the limits: fewer than 12,000 events so far; for a call a register 1..M, a free row of 1,024, and room for N messages; for a receipt room
 -- for what the algorithm then sends, 512 in flight after it
-abbrev pub WithinFor : State → System → Action → Type 0
-WithinFor s a (Action.invoke i call) =
+abbrev pub RoomLeft : State → System → Action → Type 0
+RoomLeft s a (Action.invoke i call) =
     (within (registerOf call) (s .m) ≡ true) × (length (s .rows) < 1024) × (length (s .flight) + s .n ≤ 512)
-WithinFor s a (Action.receive place) = length (s .flight) - 1 + length (onArrival a place .sends) ≤ 512
-WithinFor s a (Action.crash i) = Unit {0}
-WithinFor s a (Action.lose place) = Unit {0}
+RoomLeft s a (Action.receive place) = length (s .flight) - 1 + length (onArrival a place .sends) ≤ 512
+RoomLeft s a (Action.crash i) = Unit {0}
+RoomLeft s a (Action.lose place) = Unit {0}
 
-abbrev pub Within : State → System → Action → Type 0
-Within s a action = (s .accepted < 12000) × WithinFor s a action
+abbrev pub WithinLimits : State → System → Action → Type 0
+WithinLimits s a action = (s .accepted < 12000) × RoomLeft s a action
 
 -- the states that a bench reaches from a fresh start
 pub data ReachedBy (f : State → Event → Outcome) : State → Type 0 where
@@ -51,9 +51,9 @@ pub record Demand2 (f : State → Event → Outcome) : Type 0 where
   pub sound : (s : State) (a : System) (e : Event) → ReachedBy f s → Same s a → f s e .refusal ≡ 0
       → (action : Action) × Names s e action × Enabled a action × Same (f s e .state) (taken a action)
   -- complete: a step of the algorithm within the limits is accepted, by an event that names it, and the two are the same again
-  pub complete : (s : State) (a : System) (action : Action) → ReachedBy f s → Same s a → Enabled a action → Within s a action
+  pub complete : (s : State) (a : System) (action : Action) → ReachedBy f s → Same s a → Enabled a action → WithinLimits s a action
       → (e : Event) × Names s e action × (f s e .refusal ≡ 0) × Same (f s e .state) (taken a action)
-  -- what `Within` reads of the bench and `Same` does not tell: an accepted event is counted once, and the registers stay
+  -- what `WithinLimits` reads of the bench and `Same` does not tell: an accepted event is counted once, and the registers stay
   pub counted : (s : State) (e : Event) → ReachedBy f s → f s e .refusal ≡ 0 → (f s e .state .accepted ≡ s .accepted + 1) × (f s e .state .m ≡ s .m)
   -- a refused event changes nothing
   pub refused : (s : State) (e : Event) → ReachedBy f s → (f s e .refusal ≡ 0 → ⊥) → f s e .state ≡ s

@@ -11,7 +11,7 @@ use Rattle.state.specs.State.{State, fresh}
 use Rattle.state.specs.Step.{Outcome}
 use Rattle.sc_abd.specs.System.{System, Action, Enabled, started, taken, onArrival}
 use Rattle.sc_abd.specs.Same.{Same}
-use Rattle.sc_abd.specs.Demand2.{Names, registerOf, Within, ReachedBy}
+use Rattle.sc_abd.specs.Demand2.{Names, registerOf, WithinLimits, ReachedBy}
 
 -- n processes after these steps
 abbrev pub after : ℕ → List Action → System
@@ -42,4 +42,4 @@ pub data Performed (f : State → Event → Outcome) (n m : ℕ) : List Action �
 -- demand 2 asks that every step within the limits is accepted; a bench keeps the limits if it accepts no other
 abbrev pub KeepsLimits : (State → Event → Outcome) → Type 0
 KeepsLimits f =
-    (s : State) (a : System) (e : Event) (action : Action) → ReachedBy f s → Same s a → Names s e action → f s e .refusal ≡ 0 → Within s a action
+    (s : State) (a : System) (e : Event) (action : Action) → ReachedBy f s → Same s a → Names s e action → f s e .refusal ≡ 0 → WithinLimits s a action

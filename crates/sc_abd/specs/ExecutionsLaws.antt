@@ -18,7 +18,7 @@ use Rattle.state.specs.PairLaws.{ok-within}
 use Rattle.state.specs.Sized.{reached-sized}
 use Rattle.sc_abd.specs.System.{Call, System, Action, Enabled, taken, onArrival}
 use Rattle.sc_abd.specs.Same.{Same}
-use Rattle.sc_abd.specs.Demand2.{Names, registerOf, Within, ReachedBy, Demand2}
+use Rattle.sc_abd.specs.Demand2.{Names, registerOf, WithinLimits, ReachedBy, Demand2}
 use Rattle.sc_abd.specs.Executions.{after, RoomFor, Execution, Performed, KeepsLimits}
 use Rattle.sc_abd.specs.Along.{names-one}
 use Rattle.sc_abd.specs.Complete.{sends-alike}
@@ -30,14 +30,14 @@ use Rattle.sc_abd.specs.Theorem.{reached, reached-well, step-meets-deman
 -- ---- the limits that a bench reads are those of the system that it is the same as
 
 module _ (s : State) (a : System) (same : Same s a) where
-  room-within : (action : Action) → s .accepted < 12000 → RoomFor (s .m) a action → Within s a action
+  room-within : (action : Action) → s .accepted < 12000 → RoomFor (s .m) a action → WithinLimits s a action
   room-within (Action.invoke i call) few room =
       (few, (room .0, omega (arith, room .1, as-many-rows s a same), omega (arith, room .2, as-many-messages s a same, same .size)))
   room-within (Action.receive place) few room = (few, omega (arith, room, as-many-messages s a same))
   room-within (Action.crash i) few room = (few, tt)
   room-within (Action.lose place) few room = (few, tt)
 
-  within-room : (action : Action) → Within s a action → RoomFor (s .m) a action
+  within-room : (action : Action) → WithinLimits s a action → RoomFor (s .m) a action
   within-room (Action.invoke i call) limits =
       (limits .1 .0, omega (arith, limits .1 .1, as-many-rows s a same), omega (arith, limits .1 .2, as-many-messages s a same, same .size))
   within-room (Action.receive place) limits = omega (arith, limits .1, as-many-messages s a same)
@@ -108,10 +108,10 @@ run-performed f d (RunBy.then s e run r z) =
 -- ---- ours keeps the limits
 
 module _ (s : State) (a : System) (r : ReachedBy step s) (same : Same s a) where
-  invoked-limits : (p x : ℕ) (call : Call) → registerOf call ≡ x → Invoked s p x → Within s a (Action.invoke p call)
+  invoked-limits : (p x : ℕ) (call : Call) → registerOf call ≡ x → Invoked s p x → WithinLimits s a (Action.invoke p call)
   invoked-limits p x call f i = (i .room, (ap (λ y. within y (s .m)) f ∙ ok-within (i .register), i .rows, i .flight))
 
-  delivered-limits : (k place : ℕ) → seek k 0 (s .flight) ≡ Place place → stepDeliver s k .refusal ≡ 0 → Within s a (Action.receive place)
+  delivered-limits : (k place : ℕ) → seek k 0 (s .flight) ≡ Place place → stepDeliver s k .refusal ≡ 0 → WithinLimits s a (Action.receive place)
   delivered-limits k place found z =
       let (i, c, next) = deliver-accepted s k z in
       let there : seek k 0 (s .flight) ≡ Place i = found-place s (reached-well r) k i (c .found) in

@@ -15,7 +15,7 @@ use Rattle.state.specs.MadeUp.{saidSent, oneMore, oneFewer, madeUp}
 use Rattle.sc_abd.specs.Algorithm1.{Process}
 use Rattle.sc_abd.specs.System.{System, Action, taken}
 use Rattle.sc_abd.specs.Same.{SamePhase, SameProcess, Same}
-use Rattle.sc_abd.specs.Demand2.{Names, Within, ReachedBy, Demand2}
+use Rattle.sc_abd.specs.Demand2.{Names, WithinLimits, ReachedBy, Demand2}
 use Rattle.sc_abd.specs.Theorem.{step-meets-demand2}
 
 -- ---- demand 2 does not see the count
@@ -54,7 +54,7 @@ module _ (s : State) (sent : ℕ) where
   names-uncounted e action (Names.crash p) = Names.crash p
   names-uncounted e action (Names.lose k place found) = Names.lose k place found
 
-  limits-uncounted : (a : System) (action : Action) → Within s a action → Within (saidSent sent s) a action
+  limits-uncounted : (a : System) (action : Action) → WithinLimits s a action → WithinLimits (saidSent sent s) a action
   limits-uncounted a (Action.invoke i call) h = h
   limits-uncounted a (Action.receive place) h = h
   limits-uncounted a (Action.crash i) h = h

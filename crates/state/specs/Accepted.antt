@@ -27,7 +27,7 @@ use Rattle.tables.specs.Tables.{emptyMessage, seek, removed}
 use Rattle.tables.specs.TableLaws.{seek-at}
 use Rattle.state.specs.State.{State, replicaOf}
 use Rattle.state.specs.Step.{Outcome, outcome, check, full, noRoom, invokeRefusal, loseRefusal, askedRegister}
-use Rattle.state.specs.Step.{readRow, writeRow, answeredRows, moved, withoutMessage, receivedBy, received}
+use Rattle.state.specs.Step.{readRow, writeRow, answeredRows, moved, withoutMessage, heardBy, heard}
 use Rattle.state.specs.Step.{stepRead, stepWrite, deliverAt, stepDeliver, stepCrash, loseAt, stepLose}
 use Rattle.state.specs.PairLaws.{Within, within-ok}
 
@@ -62,11 +62,11 @@ plainBy s r message Ack = ackRule r (s .n) (message .from) (message .time) (mess
 abbrev pub plain : State → Replica → Message → Answer
 plain s r message = plainBy s r message (message .body)
 
-pub received-answers : (s : State) (r : Replica) (message : Message) → received s r message .refusal ≡ 0 → received s r message ≡ plain s r message
+pub received-answers : (s : State) (r : Replica) (message : Message) → heard s r message .refusal ≡ 0 → heard s r message ≡ plain s r message
 unfolding queryReceived updateReceived responseReceived ackReceived
 received-answers s r message = go (message .body)
   where
-    go : (body : Body) → receivedBy s r message body .refusal ≡ 0 → receivedBy s r message body ≡ plainBy s r message body
+    go : (body : Body) → heardBy s r message body .refusal ≡ 0 → heardBy s r message body ≡ plainBy s r message body
     go (Query x) = rule-answers (queryRefusal r (message .from) (message .time) (message .rid) x) r (plainBy s r message (Query x))
     go (Response pair) =
         rule-answers (responseRefusal r (s .n) (askedRegister s (r .phase)) (message .from) (message .time) (message .rid) pair) r
@@ -219,7 +219,7 @@ deliver-at : (s : State) (i : ℕ) → deliverAt s (At i) .refusal ≡ 0
     × (deliverAt s (At i) .state ≡ deliverNext s i)
 deliver-at s i e =
     let r : Replica = recipientAt s i in
-    let answer : Answer = received s r (messageAt s i) in
+    let answer : Answer = heard s r (messageAt s i) in
     let flight : Answer → ℕ = λ (a : Answer). length (s .flight) - 1 + sentBy (s .n) (a .sends) in
     let next : Answer → State = λ (a : Answer).
     moved s (messageAt s i .to .0) a (removed i (s .flight)) (s .delivered + 1) (answeredRows (s .rows) (pointed (r .phase)) (a .ended)) in

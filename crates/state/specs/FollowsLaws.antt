@@ -18,7 +18,7 @@ use Rattle.tables.specs.Tables.{seek}
 use Rattle.state.specs.declared.Event.{Event}
 use Rattle.state.specs.declared.Event.the-variants.{Read, Write, Deliver, Crash, Lose}
 use Rattle.state.specs.State.{State, replicaOf}
-use Rattle.state.specs.Step.{Outcome, outcome, full, noRoom, invokeRefusal, deliverRefusal, crashRefusal, received}
+use Rattle.state.specs.Step.{Outcome, outcome, full, noRoom, invokeRefusal, deliverRefusal, crashRefusal, heard}
 use Rattle.state.specs.Step.{step, stepRead, stepWrite, stepDeliver, deliverAt, stepCrash, stepLose, loseAt}
 use Rattle.state.specs.Accepted.{rule-answers, received-answers, passed}
 use Rattle.state.specs.Follows.{Follows, afterRead, afterWrite, messageAt, receiverOf, afterDeliver, afterCrash}
@@ -78,7 +78,7 @@ deliver-judged s k (Place i) e =
     let r = receiverOf s i in
     judged s (Deliver k) _ _ λ z.
     subst (λ a. Follows s (Deliver k) (afterDeliver s i a))
-    (sym (received-answers s r message (deliver-passed s r (received s r message) z)))
+    (sym (received-answers s r message (deliver-passed s r (heard s r message) z)))
     (delivers k i e)
 
 lose-judged : (s : State) (k : ℕ) (found : Found) → seek k 0 (s .flight) ≡ found → Judged s (Lose k) (loseAt s found)

@@ -19,9 +19,9 @@ use Rattle.replica.specs.Handlers.{stored, readRule, readBegun, writeRule, writ
 use Rattle.replica.specs.Handlers.{queryRule, queryReceived, updateRule, updateReceived, responseRule, responseReceived, ackRule, ackReceived}
 use Rattle.replica.specs.Handlers.{crashRule, crashed}
 use Rattle.replica.specs.HandlerLaws.{read-is-rule, write-is-rule, query-is-rule, update-is-rule, response-is-rule, ack-is-rule, crash-is-rule}
-use Rattle.replica.specs.Ranges.{phaseFits, replicaFits}
+use Rattle.replica.specs.Ranges.{phaseInside, replicaInside}
 use Rattle.state.specs.State.{State, replicaOf}
-use Rattle.state.specs.Step.{askedRegister, receivedBy, received}
+use Rattle.state.specs.Step.{askedRegister, heardBy, heard}
 use Rattle.state.specs.WellFormed.{bodyFits}
 use Rattle.state.specs.Accepted.{Invoked, plainBy, plain, messageAt, recipientAt}
 use Rattle.state.specs.EveryLaws.{both}
@@ -47,14 +47,14 @@ module _ (s : State) (w : Well s) where
       (le-leb (x .rid .0) 24000 (omega (arith, k .rid, w .events)))
 
   module _ (short : length (s .rows) ≤ 1024) (p : ℕ) (actor : Within p (s .n)) where
-    phase-inside : (phase : Phase) (repliers : ℕ) → PhaseOk s p phase repliers → phaseFits phase ≡ true
+    phase-inside : (phase : Phase) (repliers : ℕ) → PhaseOk s p phase repliers → phaseInside phase ≡ true
     phase-inside Idle repliers o = refl
     phase-inside (Querying row best) repliers o =
         both (within-wider row (length (s .rows)) 1024 short (pending-within p row (s .rows) (o .0))) (pair-inside best (o .2))
     phase-inside (Updating row sent) repliers o =
         both (within-wider row (length (s .rows)) 1024 short (pending-within p row (s .rows) (o .0))) (pair-inside sent (o .1))
 
-    pub replica-inside : (n : ℕ) → s .n ≤ n → replicaFits n (replicaOf s p) ≡ true
+    pub replica-inside : (n : ℕ) → s .n ≤ n → replicaInside n (replicaOf s p) ≡ true
     replica-inside n l =
         let o = w .replica p actor in
         let a = le-leb (replicaOf s p .clock .0) 12000 (omega (arith, o .clock, w .events)) in
@@ -68,7 +68,7 @@ module _ (s : State) (w : Well s) (p x : ℕ) (i : Invoked s p x) where
   row-inside : within (length (s .rows) + 1) 1024 ≡ true
   row-inside = ok-within {x = length (s .rows) + 1} {most = 1024} (record { least = omega arith; most = omega (arith, i .rows) })
 
-  invoker-inside : replicaFits 7 (replicaOf s p) ≡ true
+  invoker-inside : replicaInside 7 (replicaOf s p) ≡ true
   invoker-inside = replica-inside s w (omega (arith, i .rows)) p (i .actor) 7 (w .processes .most)
 
   pub read-plain : readBegun (replicaOf s p) x (length (s .rows) + 1) ≡ readRule (replicaOf s p) x (length (s .rows) + 1)
@@ -122,10 +122,10 @@ module _ (s : State) (w : Well s) (short : length (s .rows) ≤ 1024) (p : ℕ) 
     pub ack-plain : ackReceived (replicaOf s p) (s .n) (x .from) (x .time) (x .rid) ≡ ackRule (replicaOf s p) (s .n) (x .from) (x .time) (x .rid)
     ack-plain = ack-is-rule (replicaOf s p) (s .n) (x .from) (x .time) (x .rid) reply-inside up
 
-    pub received-plain : received s (replicaOf s p) x ≡ plain s (replicaOf s p) x
+    pub received-plain : heard s (replicaOf s p) x ≡ plain s (replicaOf s p) x
     received-plain = go (x .body) (k .body)
       where
-        go : (body : Body) → bodyFits s body ≡ true → receivedBy s (replicaOf s p) x body ≡ plainBy s (replicaOf s p) x body
+        go : (body : Body) → bodyFits s body ≡ true → heardBy s (replicaOf s p) x body ≡ plainBy s (replicaOf s p) x body
         go (Query y) f = query-plain y (within-ok y (s .m) f)
         go (Response pair) f = response-plain pair f
         go (Update y pair) f =
@@ -136,7 +136,7 @@ module _ (s : State) (w : Well s) (short : length (s .rows) ≤ 1024) (p : ℕ) 
 
 -- a message in flight, delivered to a process that is up
 pub delivered-plain : (s : State) → Well s → length (s .rows) ≤ 1024 → (i : ℕ) → i < length (s .flight) → recipientAt s i .crashed ≡ false
-    → received s (recipientAt s i) (messageAt s i) ≡ plain s (recipientAt s i) (messageAt s i)
+    → heard s (recipientAt s i) (messageAt s i) ≡ plain s (recipientAt s i) (messageAt s i)
 delivered-plain s w short i inside up =
     let k = message-at s w i inside in
     received-plain s w short (messageAt s i .to .0) (k .recipient) up (messageAt s i) k

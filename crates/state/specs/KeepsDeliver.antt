@@ -23,7 +23,7 @@ use Rattle.replica.specs.declared.Phase.the-variants.{Idle, Querying, Updating}
 use Rattle.replica.specs.declared.Sends.{Sends}
 use Rattle.replica.specs.declared.Sends.the-variants.{Nothing, Reply, Broadcast}
 use Rattle.replica.specs.Clock.{after}
-use Rattle.replica.specs.Handlers.{accepted, ackCounts, ackCounted, ackTaken, ackRule, moved as placed}
+use Rattle.replica.specs.Handlers.{accepted, ackCounts, ackCounted, ackTaken, ackRule, became as placed}
 use Rattle.replica.specs.Numbers.{pointed}
 use Rattle.tables.specs.declared.Kind.{Kind}
 use Rattle.tables.specs.declared.Kind.the-variants.{Read, Write}

@@ -18,7 +18,7 @@ use Rattle.replica.specs.declared.Answer.{Answer}
 use Rattle.replica.specs.declared.Ended.the-variants.{Pending}
 use Rattle.replica.specs.declared.Phase.{Phase}
 use Rattle.replica.specs.declared.Phase.the-variants.{Idle, Querying, Updating}
-use Rattle.replica.specs.Handlers.{accepted, broadcastOf, isIdle, readRule, writeRule, moved as placed}
+use Rattle.replica.specs.Handlers.{accepted, broadcastOf, isIdle, readRule, writeRule, became as placed}
 use Rattle.tables.specs.declared.Row.{Row}
 use Rattle.tables.specs.Tables.{emptyRow}
 use Rattle.state.specs.State.{State, replicaOf}

@@ -22,7 +22,7 @@ use Rattle.replica.specs.declared.Phase.the-variants.{Idle, Querying, Updating}
 use Rattle.replica.specs.declared.Sends.the-variants.{Nothing}
 use Rattle.replica.specs.Clock.{after}
 use Rattle.replica.specs.ClockLaws.{after-least}
-use Rattle.replica.specs.Handlers.{accepted, broadcastOf, stored, discarded, moved as placed}
+use Rattle.replica.specs.Handlers.{accepted, broadcastOf, stored, discarded, became as placed}
 use Rattle.replica.specs.Handlers.{queryRule, updateRule, responseCounts, responseCounted, responseTaken, responseRule}
 use Rattle.state.specs.State.{State, replicaOf, rowOf}
 use Rattle.state.specs.Step.{askedRegister}

@@ -193,14 +193,14 @@ askedRegister s Idle = 1
 askedRegister s (Querying row best) = rowOf s row .register
 askedRegister s (Updating row sent) = 1
 
-abbrev pub receivedBy : State → Replica → Message → Body → Answer
-receivedBy s r message (Query x) = queryReceived r (message .from) (message .time) (message .rid) x
-receivedBy s r message (Response pair) = responseReceived r (s .n) (askedRegister s (r .phase)) (message .from) (message .time) (message .rid) pair
-receivedBy s r message (Update x pair) = updateReceived r (message .from) (message .time) (message .rid) x pair
-receivedBy s r message Ack = ackReceived r (s .n) (message .from) (message .time) (message .rid)
+abbrev pub heardBy : State → Replica → Message → Body → Answer
+heardBy s r message (Query x) = queryReceived r (message .from) (message .time) (message .rid) x
+heardBy s r message (Response pair) = responseReceived r (s .n) (askedRegister s (r .phase)) (message .from) (message .time) (message .rid) pair
+heardBy s r message (Update x pair) = updateReceived r (message .from) (message .time) (message .rid) x pair
+heardBy s r message Ack = ackReceived r (s .n) (message .from) (message .time) (message .rid)
 
-abbrev pub received : State → Replica → Message → Answer
-received s r message = receivedBy s r message (message .body)
+abbrev pub heard : State → Replica → Message → Answer
+heard s r message = heardBy s r message (message .body)
 
 unfoldable pub stepRead : State → ℕ → ℕ → Outcome
 stepRead s p x =
@@ -220,7 +220,7 @@ deliverAt s (Place i) =
     let message = getD (s .flight) i emptyMessage in
     let p = message .to .0 in
     let r = replicaOf s p in
-    let answer = received s r message in
+    let answer = heard s r message in
     outcome s (deliverRefusal s r answer)
     (moved s p answer (removed i (s .flight)) (s .delivered + 1) (answeredRows (s .rows) (pointed (r .phase)) (answer .ended)))
 

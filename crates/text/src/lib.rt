@@ -1,8 +1,8 @@
 // The text of a replay, written into a lent buffer.
-mod bytes;
+pub mod bytes;
 pub mod lines;
 mod listing;
-mod numbers;
+pub mod numbers;
 mod registers;
 mod replicas;
 pub mod rows;

@@ -35,7 +35,7 @@ fn put_digits(buf: &mut [u8], at: usize, k: usize, n: u64) -> usize
     at + k
 }
 
-fn put_decimal(buf: &mut [u8], at: usize, n: u64) -> usize
+pub fn put_decimal(buf: &mut [u8], at: usize, n: u64) -> usize
     requires { ⌜ at + length (decimal n) ≤ length (now buf) ⌝ }
     ensures { λ r. ⌜ Wrote at (decimal n) (length (decimal n)) (now (buf .entry)) (now (buf .exit)) r ⌝ }
 {

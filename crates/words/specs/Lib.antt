@@ -1,8 +1,10 @@
+-- What a reader has to believe
 pub mod Quorum
-pub mod QuorumLaws
 pub mod Ranges
-pub mod RangeLaws
 pub mod Stamps
-pub mod StampLaws
 pub mod Rank
+-- Laws
+pub mod QuorumLaws
+pub mod RangeLaws
+pub mod StampLaws
 pub mod RankLaws

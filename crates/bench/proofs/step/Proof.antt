@@ -56,7 +56,7 @@ use Rattle.state.specs.declared.Stepped.{Stepped}
 use Rattle.state.specs.Tabled.{tabled}
 use Rattle.tables.proofs.Flow.{ifs, falls}
 use Rattle.judge.proofs.TabledCall.{IsTabled, calls-is-tabled}
-use Rattle.bench.specs.ReplyLaws.{Replied, advanced-replied, refused-replied}
+use Rattle.bench.specs.ReplyLaws.{StepReplied, advanced-replied, refused-replied}
 use Rattle.advance.proofs.Steppeds.{R as RStepped, val as valStepped, vals as valsStepped, typed as typedStepped, makes as makesStepped}
 use Rattle.bench.proofs.StepCalls.{Advances, Refused, calls-advance, calls-refused}
 use Rattle.bench.proofs.step.Key.{name as #bench·step}
@@ -86,7 +86,7 @@ module _ {M : Type 1} (𝓤 : URA M) (H : Heap 𝓤) (A : Atoms 𝓤) (W : Given
   abbrev Had : List Message → List Row → List (Item 𝓤)
   Had ms rs = ‵ (Mut R κ₀ b₀ o₀ n₀ γ₀ ms) ∷ ‵ (flft κ₀ q₀) ∷ ‵ (Mut R₂ κ₁ b₁ o₁ n₁ γ₁ rs) ∷ ‵ (flft κ₁ q₁) ∷ ‵ (owns (RBench ∷ REvent ∷ []) (b, (event, tt)) (valsBench b, (valsEvent event, tt))) ∷ []
 
-  exits : (r : Stepped) → Is RStepped r (valsStepped r) → (ms : List Message) (rs : List Row) → length ms ≡ n₀ → length rs ≡ n₁ → Replied b event ys₀ ys₁ r ms rs → ent 𝓤 (⋆ 𝓤 H A (Had ms rs)) (Post (valStepped r))
+  exits : (r : Stepped) → Is RStepped r (valsStepped r) → (ms : List Message) (rs : List Row) → length ms ≡ n₀ → length rs ≡ n₁ → StepReplied b event ys₀ ys₁ r ms rs → ent 𝓤 (⋆ 𝓤 H A (Had ms rs)) (Post (valStepped r))
   exits r is ms rs len₀ len₁ e =
       qed W (Had ms rs) ∵
       suffices ! _ (ends-at 𝓤 H A step.ended stayed (step.clauses 𝓤 H A mem run) W (((κ₀, (κ₁, tt)), (q₀, (q₁, tt)), tt, a, at), tt) (valStepped r) r (tt, (tt, (ms, (rs, tt)))) (tt, (tt, (len₀, (len₁, tt))))) $ says ! (e .reply, (e .messages-left, e .rows-left)) $

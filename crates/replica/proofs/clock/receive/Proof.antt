@@ -38,7 +38,7 @@ use denote.Exit.{yes}
 use Rattle.words.specs.declared.Time.{Time}
 use Rattle.words.proofs.Time as U
 use Rattle.words.proofs.Time.Laws as U′
-use Rattle.replica.specs.Clock.{after, afterTime, received}
+use Rattle.replica.specs.Clock.{after, afterTime, clockAfter}
 use Rattle.replica.specs.declared.clock.Clock.{Clock}
 use Rattle.replica.proofs.Clocks.{time-val, clock-val, time-is, time-fits, clock-is, fits-of, time-typed}
 use Rattle.replica.proofs.Lent.{calls-plain}
@@ -75,7 +75,7 @@ module _ {M : Type 1} (𝓤 : URA M) (H : Heap 𝓤) (A : Atoms 𝓤) (W : Given
   n = after (h .time .0) (t .0)
 
   abbrev h′ : Clock
-  h′ = received h t
+  h′ = clockAfter h t
 
   abbrev Post : Val → SProp 𝓤
   Post = walkOf 𝓤 H A receive.ended stayed (receive.clauses 𝓤 H A at-mem run) .post (((κ, tt), (q, tt), tt, x, at), tt)

@@ -1,0 +1,1 @@
+// Specs only: our own histories are always accepted.

@@ -1,0 +1,2 @@
+pub mod CallsMutRef
+pub mod Ends

@@ -1,0 +1,3 @@
+pub mod OwnFile
+pub mod OwnFileLaws
+pub mod RecordedLaws

@@ -1,0 +1,3 @@
+pub mod OfHistory
+pub mod OfEntry
+pub mod Callees

@@ -1,0 +1,4 @@
+-- What a reader has to believe
+pub mod Shown
+-- Laws
+pub mod ShowLaws

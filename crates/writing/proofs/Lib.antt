@@ -1,0 +1,4 @@
+pub mod Callees
+pub mod OfEvent
+pub mod OfFiled
+pub mod Workers

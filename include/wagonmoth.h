@@ -1,0 +1,30 @@
+/* Wagonmoth for C hosts: the functions of the crate `capi`, each proved to be the function that it wraps. `rt staticlib capi` proves them and writes target/staticlib/libcapi.a,
+   for programs of x86-64. A host passes pointers to memory of at least the length that it names; the two buffers of one call do not overlap. Nothing is kept between calls. */
+#ifndef WAGONMOTH_H
+#define WAGONMOTH_H
+
+#include <stddef.h>
+#include <stdint.h>
+
+#ifdef __cplusplus
+extern "C" {
+#endif
+
+/* Replays the schedule in bytes and lays its text at the front of out; gives the length of the text, and leaves all behind it as it was. A buffer shorter than
+   wagonmoth_longest_text() is left as it was, and 0 is given: no text is empty. A file that is no schedule has the text `refused NUMBER`. */
+size_t wagonmoth_replay(const uint8_t *bytes, size_t length, uint8_t *out, size_t room);
+
+/* No text of a replay is longer. */
+size_t wagonmoth_longest_text(void);
+
+/* Judges a history file (docs/JUDGING.md): 0 where the order in it explains it, else the number of the refusal, 22 to 27. */
+uint8_t wagonmoth_verdict(const uint8_t *bytes, size_t length);
+
+/* A stamp as one number, time times eight plus process. While processes are below 8, numbers compare as stamps do, and equal numbers are equal stamps. */
+uint64_t wagonmoth_rank(uint16_t time, uint8_t process);
+
+#ifdef __cplusplus
+}
+#endif
+
+#endif
