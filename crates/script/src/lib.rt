@@ -2,8 +2,8 @@
 
 mod fields;
 mod heads;
-mod marks;
-mod meaning;
+pub mod marks;
+pub mod meaning;
 mod numbers;
 
 use state::Event;

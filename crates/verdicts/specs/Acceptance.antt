@@ -11,11 +11,10 @@ use borrow.Author.Tests.{leb-true, leb-false, eqb-true, eqb-false}
 use Rattle.words.specs.Ranges.{within}
 use Rattle.words.specs.RangeLaws.{and-left, and-right}
 use Rattle.verdicts.specs.Explains.{Row}
-use Rattle.verdicts.specs.File.{History, IsFile, historyFile}
+use Rattle.verdicts.specs.File.{History, Bytes, IsFile, historyFile}
 use Rattle.verdicts.specs.Refusals.{NumberWrong, ReadNamed, RowMissing, SequenceBroken, ReadWrong, Accepted, Refused, no-file, number-wrong, read-named, row-missing, sequence-broken, read-wrong, First}
 use Rattle.verdicts.specs.Verdict.{rowsIn, orderIn, sized, laid, fresh, marked, unfinishedRead, missing, rising, reading, zeros, judgedKnown, judged, verdictOf}
 use Rattle.verdicts.specs.Tells.{Tells}
-use Rattle.verdicts.specs.BytesLaws.{Bytes}
 use Rattle.verdicts.specs.FileLaws.{file-rows, file-order, file-sized, file-laid, sized-tells, read-history, as-written}
 use Rattle.verdicts.specs.NumberLaws.{number-test, fresh-true, zeros-length}
 use Rattle.verdicts.specs.NamedLaws.{Known, read-test, missing-test}

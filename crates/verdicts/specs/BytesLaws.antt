@@ -8,7 +8,7 @@ use native.Mathlib.Numerals.{add-one}
 use lib.ListN.{length, getD, drop}
 use lib.Seq.{drop-cons, drop-drop, getD-drop}
 use Rattle.verdicts.specs.Explains.{Row}
-use Rattle.verdicts.specs.File.{two, four, eight, rowBytes, rowsBytes, numbersBytes}
+use Rattle.verdicts.specs.File.{Bytes, two, four, eight, rowBytes, rowsBytes, numbersBytes}
 use Rattle.verdicts.specs.Verdict.{byteAt, halfAt, wordAt, valueAt, rowOf, rowsFrom, numbersFrom}
 
 -- ---- what was written is read back: where the file goes on with its bytes, it is read, and the file goes on behind them
@@ -70,10 +70,6 @@ module _ (bytes : List ℕ) where
       ap (λ (j : ℕ). j ∷ numbersFrom bytes (at + 2) (length order)) (r .0) ∙ ap (λ (l : List ℕ). i ∷ l) (numbers-read (at + 2) order rest (r .1))
 
 -- ---- what is read is what was written: a file of bytes goes on, from a place on, with the bytes of what is read there
-
--- every number of the file is a byte
-abbrev pub Bytes : List ℕ → Type 0
-Bytes bytes = (at : ℕ) → byteAt bytes at < 256
 
 module _ (bytes : List ℕ) (small : Bytes bytes) where
   pub half-small : (at : ℕ) → halfAt bytes at < 65536

@@ -4,7 +4,7 @@ use mathlib.Core.Path.{_≡_}
 use mathlib.Core.List.{List, [], _∷_, _++_}
 use mathlib.Core.Logic.{_⊎_}
 use mathlib.Core.Option.{some}
-use lib.ListN.{length}
+use lib.ListN.{length, getD}
 use Rattle.placing.specs.Sequential.{times}
 use Rattle.verdicts.specs.Explains.{Row, IsRead, IsWrite, Completed, Unfinished, rowAt}
 
@@ -58,6 +58,10 @@ pub record History (rows : List Row) (order : List ℕ) : Type 0 where
   pub formed : (i : ℕ) (a : Row) → rowAt rows i ≡ some a → Formed a
   -- no row after an unfinished one of its process
   pub ended : (i j : ℕ) (a b : Row) → rowAt rows i ≡ some a → rowAt rows j ≡ some b → a .process ≡ b .process → i < j → Completed a
+
+-- every number of a list is a byte
+abbrev pub Bytes : List ℕ → Type 0
+Bytes bytes = (at : ℕ) → getD bytes at 0 < 256
 
 -- the bytes are the file of some history and order within the limits
 pub record IsFile (bytes : List ℕ) : Type 0 where

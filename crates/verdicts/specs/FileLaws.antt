@@ -12,10 +12,10 @@ use borrow.Author.Tests.{eqb-true, eqb-false, eq-eqb, leb-true, le-leb}
 use Rattle.words.specs.RangeLaws.{and-left, and-right}
 use Rattle.placing.specs.Sequential.{times}
 use Rattle.verdicts.specs.Explains.{Row, rowAt}
-use Rattle.verdicts.specs.File.{two, four, rowsBytes, numbersBytes, body, historyFile, Formed, History}
+use Rattle.verdicts.specs.File.{two, four, rowsBytes, numbersBytes, body, historyFile, Formed, History, Bytes}
 use Rattle.verdicts.specs.Verdict.{byteAt, halfAt, wordAt, rowOf, rowsFrom, numbersFrom, rowCount, orderAt, orderCount, rowsIn, orderIn, sized, laid, zeros}
 use Rattle.verdicts.specs.Sized.{Sized}
-use Rattle.verdicts.specs.BytesLaws.{Bytes, Goes, byte-read, two-read, four-read, rows-read, numbers-read, byte-written, two-written, four-written, rows-written, numbers-written, follows, rows-count, numbers-count, rows-length, numbers-length, half-small, value-small}
+use Rattle.verdicts.specs.BytesLaws.{Goes, byte-read, two-read, four-read, rows-read, numbers-read, byte-written, two-written, four-written, rows-written, numbers-written, follows, rows-count, numbers-count, rows-length, numbers-length, half-small, value-small}
 use Rattle.verdicts.specs.LaidLaws.{formed-kind, formed-complete, formed-of, laid-tells, laid-told}
 use Rattle.verdicts.specs.TimesLaws.{times-other}
 

@@ -16,7 +16,7 @@ use Rattle.verdicts.specs.Refusals.{ReadNamed, RowMissing}
 use Rattle.verdicts.specs.Verdict.{marked, named, unfinishedRead, missing, zeros}
 use Rattle.verdicts.specs.Tells.{Tells}
 use Rattle.verdicts.specs.RowLaws.{row-within, row-inside, row-is-named}
-use Rattle.verdicts.specs.TimesLaws.{times-here, times-other, times-more}
+use Rattle.verdicts.specs.TimesLaws.{times-here, times-other, times-more, zero-of}
 use Rattle.verdicts.specs.NumberLaws.{zeros-length, zeros-at, marked-standing, marked-absent}
 
 -- what stands in the order is a row
@@ -125,10 +125,6 @@ missing-test rows order few =
       fails = λ e m. present e (m .i) (m .a) (m .here) (m .complete) (m .missing);
     }
   where
-    zero-of : (n : ℕ) → (1 ≤ n → ⊥) → n ≡ 0
-    zero-of zero h = refl
-    zero-of (suc n) h = absurd (h (omega arith))
-
     absent : Lost (marked (zeros 1025) order) 1 rows → RowMissing rows order
     absent l =
         let z : 1 + l .k ≡ suc (l .k) = omega arith in

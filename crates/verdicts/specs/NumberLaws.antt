@@ -17,7 +17,7 @@ use Rattle.verdicts.specs.Refusals.{NumberWrong, unknown, repeated}
 use Rattle.verdicts.specs.Verdict.{fresh, marked, named, zeros}
 use Rattle.verdicts.specs.Tells.{Tells, telling}
 use Rattle.verdicts.specs.RowLaws.{row-within, row-outside}
-use Rattle.verdicts.specs.TimesLaws.{times-here, times-other, times-more}
+use Rattle.verdicts.specs.TimesLaws.{times-here, times-other, times-more, zero-of}
 
 pub zeros-length : (n : ℕ) → length (zeros n) ≡ n
 unfolding zeros
@@ -46,10 +46,6 @@ module _ (count j : ℕ) (seen order : List ℕ) (room : count < length seen) (i
 
       none-left : i ≡ j → times i order ≡ 0
       none-left e = zero-of (times i order) (λ h. let z : _≡_ {A = ℕ} 0 1 = sym (f .unseen h) ∙ ap (λ (k : ℕ). getD (set seen j 1) k 0) e ∙ getD-set-same seen j 1 0 place in omega arith)
-        where
-          zero-of : (n : ℕ) → (1 ≤ n → ⊥) → n ≡ 0
-          zero-of zero h = refl
-          zero-of (suc n) h = absurd (h (omega arith))
 
       go : (t : Bool) → eqb i j ≡ t → Fresh count seen (j ∷ order) i
       go true e =

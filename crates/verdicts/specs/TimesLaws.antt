@@ -1,5 +1,5 @@
 -- How often a number stands in an order, one number after another.
-use Prim.Native.Nat.{ℕ, _+_, _≤_}
+use Prim.Native.Nat.{ℕ, zero, suc, _+_, _≤_}
 use mathlib.Core.Path.{_≡_, refl, sym, ap}
 use mathlib.Core.Bool.{Bool, true, false}
 use mathlib.Core.List.{List, [], _∷_, _++_}
@@ -16,6 +16,11 @@ times-other i j order apart = rw (ne-eqb i j apart) (omega arith)
 
 pub times-more : (i j : ℕ) (order : List ℕ) → times i order ≤ times i (j ∷ order)
 times-more i j order = omega arith
+
+-- what does not stand stands no times
+pub zero-of : (n : ℕ) → (1 ≤ n → ⊥) → n ≡ 0
+zero-of zero h = refl
+zero-of (suc n) h = absurd (h (omega arith))
 
 -- what stands in an order splits it, and what splits it stands in it
 pub record Standing (i : ℕ) (order : List ℕ) : Type 0 where

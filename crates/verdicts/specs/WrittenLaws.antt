@@ -1,18 +1,16 @@
 -- A history within the limits that is written as a file: it is a file of bytes, and is accepted exactly when its order explains it.
-use Prim.Native.Nat.{ℕ, suc, zero, _+_, _*_, _/_, _%_, _≤_, _<_}
+use Prim.Native.Nat.{ℕ, suc, zero, _/_, _%_, _≤_, _<_}
 use mathlib.Core.Path.{_≡_, refl, sym, ap, subst, _∙_}
 use mathlib.Core.List.{List, [], _∷_, _++_}
 use mathlib.Core.Logic.{_↔_, _⊎_, inl, inr}
 use mathlib.Core.Option.{some}
 use native.Mathlib.Omega.{arith}
-use native.Mathlib.Nat.{mod-lt}
-use lib.ListN.{length, getD}
+use lib.ListN.{length}
 use Rattle.placing.specs.Sequential.{times}
 use Rattle.verdicts.specs.Explains.{Row, IsRead, IsWrite, Completed, Unfinished, rowAt, Explains}
-use Rattle.verdicts.specs.File.{two, four, eight, rowBytes, rowsBytes, numbersBytes, body, historyFile, Formed, History, IsFile}
+use Rattle.verdicts.specs.File.{two, four, eight, rowBytes, rowsBytes, numbersBytes, body, historyFile, Formed, History, Bytes, IsFile}
 use Rattle.verdicts.specs.Refusals.{Accepted}
 use Rattle.verdicts.specs.Verdict.{rowsIn, orderIn, verdictOf}
-use Rattle.verdicts.specs.BytesLaws.{Bytes}
 use Rattle.verdicts.specs.TimesLaws.{times-here, times-more}
 use Rattle.verdicts.specs.FileLaws.{body-length, file-rows, file-order}
 use Rattle.verdicts.specs.Acceptance.{accepts}

@@ -12,6 +12,7 @@ use Rattle.words.specs.Ranges.{within}
 use Rattle.tables.specs.Tables.{laidAt}
 use Rattle.text.specs.Written.{Wrote}
 use Rattle.text.specs.WrittenLaws.{andThen}
+use Rattle.text.specs.LaidLaws.{laid-length}
 use Rattle.state.specs.declared.Event.{Event}
 use Rattle.writing.specs.Bytes.{wordBytes, eventsBytes, behindLength, fileBytes}
 use Rattle.writing.specs.Writing.{writeRefusal, filed, writeReply, writeLeft}
@@ -71,3 +72,16 @@ module _ (n m : ℕ) (events : List Event) (out : List ℕ) (size : ℕ) (sized 
 
   pub leaves-all : eqb (writeRefusal n m size (length out)) 0 ≡ false → out ≡ writeLeft n m events out
   leaves-all e = sym (by-test false e)
+
+-- the output stays as long as it was
+pub left-length : (n m : ℕ) (events : List Event) (out : List ℕ) → length (writeLeft n m events out) ≡ length out
+left-length n m events out = go (eqb (writeRefusal n m size (length out)) 0) refl
+  where
+    size : ℕ
+    size = 7 + length (eventsBytes events)
+
+    go : (t : Bool) → eqb (writeRefusal n m size (length out)) 0 ≡ t → length (writeLeft n m events out) ≡ length out
+    go true e =
+        let room : 0 + length (fileBytes n m events) ≤ length out = omega (arith, file-size n m events, passed n m size (length out) e .fits) in
+        ap length (by-test n m events out size refl true e) ∙ laid-length 0 (fileBytes n m events) out room
+    go false e = ap length (by-test n m events out size refl false e)
