@@ -1,0 +1,8 @@
+-- What a reader has to believe
+pub mod Plain
+-- Laws
+pub mod DecimalLaws
+pub mod WordLaws
+pub mod FieldLaws
+pub mod HeldLaws
+pub mod ComposedBackLaws
