@@ -21,7 +21,7 @@ size_t wagonmoth_longest_text(void);
 uint8_t wagonmoth_verdict(const uint8_t *bytes, size_t length);
 
 /* A stamp as one number, time times eight plus process. While processes are below 8, numbers compare as stamps do, and equal numbers are equal stamps. */
-uint64_t wagonmoth_rank(uint16_t time, uint8_t process);
+uint64_t wagonmoth_rank(uint32_t time, uint8_t process);
 
 #ifdef __cplusplus
 }

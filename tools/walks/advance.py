@@ -1,17 +1,17 @@
-crate='advance'; lib='tables'; fn='advance'; locals=15
+crate='advance'; lib='tables'; fn='advance'; locals=12
 named=True
 params=[('t','mut'),('h','mut₂'),('bench','R-Bench'),('event','R-Event')]
 result='Stepped'
-callees=[('ask','Asks','advance'),('learn','Learns','advance'),('act','Acts','advance')]
-calls=['calls-ask','calls-learn','calls-act']
-own=['Asks','Learns','Acts']+calls
+callees=[('ask','Asks','advance'),('pursue','Pursues','advance')]
+calls=['calls-ask','calls-pursue']
+own=['Asks','Pursues']+calls
 requires=['tabled bench ys₀ ys₁ ≡ true']
-about='Gather, decide, carry; that it is `step` is the law `Advances`.'
+about='The messages are asked, and the rest pursued.'
 uses='''
 use Rattle.state.specs.Tabled.{tabled}
 use Rattle.tables.specs.Tables.{emptyRow}
 use Rattle.advance.specs.Advanced.{Advanced}
-use Rattle.advance.specs.Advances.{bounded, flight-within, ready, done as steps}
+use Rattle.advance.specs.Advances.{bounded, flight-within}
 '''
 exits='''
 abbrev Had : List Message → List Row → List (Item 𝓤)
@@ -24,15 +24,12 @@ exits r is ms rs len₀ len₁ e =
     nothing ! $ move ! (4 ∷ 0 ∷ []) $ join ! $ move ! (2 ∷ 0 ∷ []) $ join ! $ frame ! $ move ! (1 ∷ 2 ∷ []) $ fjoin ! $ move ! (1 ∷ 0 ∷ []) $ fjoin ! $ frame ! $ owned ! R-Stepped (Is R-Stepped) (makes-Stepped 𝓤 H A) r _ is $ done !
 '''
 walk='''
-@reborrow(7,8,1);
-calls-ask ! fm mem run ask-known b₀ o₀ n₀ ys₀ refl gn₀ bench event gbench gevent (flight-within bench event ys₀ ys₁ h₀) (bounded bench event ys₀ ys₁ h₀ .replicas) @args(8,3,4) (λ a₀ ga₀ ea.
+@reborrow(6,7,1);
+calls-ask ! fm mem run ask-known b₀ o₀ n₀ ys₀ refl gn₀ bench event gbench gevent (flight-within bench event ys₀ ys₁ h₀) (bounded bench event ys₀ ys₁ h₀ .replicas) @args(7,3,4) (λ a₀ ga₀ ea.
 @land(5,(typed-Asked 𝓤 H A W a₀ ga₀));
-@reborrow(9,10,2);
-move ! (2 ∷ 3 ∷ []) $ calls-learn ! fm mem run learn-known b₁ o₁ n₁ ys₁ refl gn₁ a₀ ga₀ @args(10,5) (λ k gk ek. move ! (2 ∷ 3 ∷ []) $
-@land(6,(typed-Known 𝓤 H A W k gk));
-@reborrow(11,12,1);
-@reborrow(13,14,2);
-calls-act ! fm mem run act-known b₀ o₀ n₀ b₁ o₁ n₁ ys₀ ys₁ refl refl gn₀ gn₁ bench event k gbench gevent gk (bounded bench event ys₀ ys₁ h₀) (ready bench event ys₀ ys₁ h₀ a₀ k ea ek) @args2(12,14,3,4,6) (λ ms rs r len₀ len₁ gr er e₀ e₁.
+@reborrow(8,9,1);
+@reborrow(10,11,2);
+calls-pursue ! fm mem run pursue-known b₀ o₀ n₀ b₁ o₁ n₁ ys₀ ys₁ refl refl gn₀ gn₁ bench event a₀ gbench gevent ga₀ h₀ ea @args2(9,11,3,4,5) (λ ms rs r len₀ len₁ gr e.
 @land(0,(typed-Stepped 𝓤 H A W r gr));
-@end(0,1,2,3,4,5,6,7,8,9,10,11,12,13,14) by ! (exits r gr ms rs len₀ len₁ (steps bench event ys₀ ys₁ h₀ a₀ k ea ek r ms rs er e₀ e₁)))))
+@end(0,1,2,3,4,5,6,7,8,9,10,11) by ! (exits r gr ms rs len₀ len₁ e)))
 '''

@@ -37,6 +37,7 @@ FNS=[
  ('lay','advance','mut',[('w','Work')],['Sound w (length ys)'],'unit','laidAt (w .from) (copies (w .first) (w .count)) ys'),
  ('carry','advance','mut2',[('w','Work')],['Sound w (length ys₀)'],'unit',('carriedMessages w ys₀','carriedRows w ys₁')),
  ('act','advance','mut2',[('bench','Bench'),('event','Event'),('facts','Known')],['Bounded bench','Sound (workOf bench event facts) (length ys₀)'],'Stepped',('carriedMessages (workOf bench event facts) ys₀','carriedRows (workOf bench event facts) ys₁','workOf bench event facts .stepped')),
+ ('pursue','advance','mut2',[('bench','Bench'),('event','Event'),('asked','Asked')],['tabled bench ys₀ ys₁ ≡ true','asked ≡ askedIn bench event ys₀'],'Stepped','Advanced bench event ys₀ ys₁ r zs₀ zs₁'),
  ('advance','advance','mut2',[('bench','Bench'),('event','Event')],['tabled bench ys₀ ys₁ ≡ true'],'Stepped','Advanced bench event ys₀ ys₁ r zs₀ zs₁'),
  ('conclude','advance','mut2',[('w','Work')],['Sound w (length ys₀)'],'Stepped',('carriedMessages w ys₀','carriedRows w ys₁','w .stepped')),
 ]

@@ -53,6 +53,8 @@ makes 𝓤 H A = LL.makes M.the-type M′.the-plain 𝓤 H A
 ''')
 FNS=[
  ('counts.limits_of','plain',[('b','Bench')],'Limits','limitsOf b'),
+ ('counts.flight_of','plain',[('b','Bench')],'u16','b .flight'),
+ ('counts.rows_of','plain',[('b','Bench')],'u16','b .rows'),
  ('messages.start_messages','plain',[('places','usize'),('flight','u16')],'Scan','startMessages places flight'),
  ('messages.scan_message','plain',[('l','Limits'),('s','Scan'),('m','Message')],'Scan','scanMessage (limited l) s m'),
  ('rows.start_rows','plain',[('places','usize'),('rows','u16')],'RowScan','startRows places rows'),
@@ -129,6 +131,7 @@ for path,kind,args,res,ens in FNS:
     L.append(f'      → ((P : SProp 𝓤) '+('(L : Fml) → Opds K W (raw P ∷ ‵ L ∷ Γ)' if ref else '→ Opds K W (raw P ∷ Γ)')+f' E xs ({mach}))')
     e=f'({ens})'
     if res=='bool': L.append(f'      → {land(f"(vbool {e})")}')
+    elif res in W: L.append(f'      → ({ens} < 2 ^ {W[res][1:]} → {land(f"(vint {W[res]} {e})")})')
     else: L.append(f'      → (Is R{res} {e} (vals{res} {e}) → {land(f"(val{res} {e})")})')
     L.append(f'      → Seq K W {ctx} (runs C Λ E (seq (call {sym(path)} xs d) rest) p)')
     L.append(f'  calls-{B} t fm mem run known '+('{κ} {q} {γ} b o n ys ' if ref else '')+' '.join([v for v,_ in args]+['g'+v for v,_ in gs])+' os k =')
@@ -139,6 +142,7 @@ for path,kind,args,res,ens in FNS:
     L.append(f'      (owns-make 𝓤 H A ({own}) (Ises ({own})) {nest([mk(k) for _,k in args])} {av} {vv} {g})')
     L.append(f'      tt (id⊢ 𝓤 _) (λ r. r ≡ {ens}) (λ r ws. id⊢ 𝓤 _) os')
     if res=='bool': L.append(f'      (λ v r is φ. subst (λ (u : Val). {land("u")}) (sym (ap only is ∙ ap vbool φ)) k)')
+    elif res in W: L.append(f'      (λ v r is φ. subst (λ (u : Val). {land("u")}) (sym (ap only (is .0) ∙ ap (vint {W[res]}) φ)) (k (subst (λ (x : ℕ). x < 2 ^ {W[res][1:]}) φ (is .1))))')
     else:
         L.append(f'      (λ v r is φ. subst (λ (u : Val). {land("u")}) (sym (ap only (tells{res} r (v ∷ []) is ∙ ap vals{res} φ)))')
         L.append(f'      (k (subst (λ (x : {res}). Is R{res} x (vals{res} x)) φ (subst (Is R{res} r) (tells{res} r (v ∷ []) is) is))))')

@@ -5,7 +5,7 @@ result='usize'
 callees=[('row_at','RowAt'),('rows.put_row_line','PutRowLine','text')]
 calls=['calls-row-at-ref']
 own=['PutRowLine','calls-put-row-line']
-requires=['s + 68 * c ≤ n₀','c ≤ n₁','c ≤ 1024']
+requires=['s + 68 * c ≤ n₀','c ≤ n₁','c ≤ 1024','ShortRows c ys₁']
 about='A loop that writes a buffer and reads a table: what a turn begins with is what was written.'
 uses='''
 use lib.ListN.{take}
@@ -14,6 +14,7 @@ use native.Mathlib.Omega.{arith}
 use Rattle.tables.specs.Tables.{emptyRow}
 use Rattle.tables.proofs.Flow.{whiles3, tests, leaves}
 use Rattle.text.specs.Printed.{rowLine, rowLines}
+use Rattle.text.specs.Short.{ShortRows}
 use Rattle.text.specs.Written.{Wrote}
 use Rattle.text.specs.WrittenLaws.{andThen, asText, nothing as wrote-nothing}
 use Rattle.text.specs.LineLaws.{one-row}
@@ -77,7 +78,7 @@ move ! (2 ∷ 3 ∷ []) $ calls-row-at-ref ! fm mem run row-at-known b₁ o₁ n
 @land(7,(typed₂ 𝓤 H A W (getD ys₁ (x .0) emptyRow) im));
 @reborrow(10,11,1);
 @set(12,(bin ! @ld(6) (lit ! tt) (record { fits = up (x .0) h₂ (ltb→lt (x .0) c h) })),(tt, record { fits = up (x .0) h₂ (ltb→lt (x .0) c h) }));
-calls-put-row-line ! fm mem run put-row-line-known b₀ o₀ n₀ (x .1 .1 .0) (x .1 .1 .1 .1 .0) gn₀ (x .1 .0) (x .0 + 1) (getD ys₁ (x .0) emptyRow) (end-fits (gn₀ .0) (x .0) (x .1 .0) (x .1 .1 .0) (x .1 .1 .1)) (up (x .0) h₂ (ltb→lt (x .0) c h)) im (fits h₀ (x .0) (x .1 .0) (x .1 .1 .0) (x .1 .1 .1) (ltb→lt (x .0) c h)) @args(11,5,12,7) (λ r us gr len w.
+calls-put-row-line ! fm mem run put-row-line-known b₀ o₀ n₀ (x .1 .1 .0) (x .1 .1 .1 .1 .0) gn₀ (x .1 .0) (x .0 + 1) (getD ys₁ (x .0) emptyRow) (end-fits (gn₀ .0) (x .0) (x .1 .0) (x .1 .1 .0) (x .1 .1 .1)) (up (x .0) h₂ (ltb→lt (x .0) c h)) im (fits h₀ (x .0) (x .1 .0) (x .1 .1 .0) (x .1 .1 .1) (ltb→lt (x .0) c h), h₃ (x .0) (ltb→lt (x .0) c h)) @args(11,5,12,7) (λ r us gr len w.
 land ! (from ! (stop !)) (store ! @p(5) refl (tt, record { fits = gr })) $
 assigns-last ! (bin ! @ld(6) (lit ! tt) (record { fits = up (x .0) h₂ (ltb→lt (x .0) c h) })) (from ! (stop !)) (store ! @p(6) refl (tt, record { fits = up (x .0) h₂ (ltb→lt (x .0) c h) })) $
 @forget(7,8,9,10,11,12);

@@ -74,6 +74,8 @@ use Rattle.advance.proofs.carry as carry
 use Rattle.advance.proofs.carry.Symbol.{name as #advance·carry}
 use Rattle.advance.proofs.act as act
 use Rattle.advance.proofs.act.Symbol.{name as #advance·act}
+use Rattle.advance.proofs.pursue as pursue
+use Rattle.advance.proofs.pursue.Symbol.{name as #advance·pursue}
 use Rattle.advance.proofs.advance as advance
 use Rattle.advance.proofs.advance.Symbol.{name as #advance·advance}
 use Rattle.advance.proofs.conclude as conclude
@@ -109,6 +111,9 @@ module _ {M : Type 1} (𝓤 : URA M) (H : Heap 𝓤) (A : Atoms 𝓤) (mem : Mem
 
   abbrev pub Acts : Contract 𝓤
   Acts = tripleOf 𝓤 H A act.signature (act.spec 𝓤 H A mem run)
+
+  abbrev pub Pursues : Contract 𝓤
+  Pursues = tripleOf 𝓤 H A pursue.signature (pursue.spec 𝓤 H A mem run)
 
   abbrev pub Advances : Contract 𝓤
   Advances = tripleOf 𝓤 H A advance.signature (advance.spec 𝓤 H A mem run)
@@ -246,6 +251,19 @@ module _ {M : Type 1} {𝓤 : URA M} {H : Heap 𝓤} {A : Atoms 𝓤} {K : Type 
       (λ _ _ _ _. tt) (λ _ _ _ _. factI 𝓤 ((Bounded bench) × (Sound (workOf bench event facts) (length ys₀))) (emp 𝓤) (h₀, h₁))
       (λ r zs₀ zs₁. (r ≡ workOf bench event facts .stepped) × ((zs₀ ≡ carriedMessages (workOf bench event facts) ys₀) × (zs₁ ≡ carriedRows (workOf bench event facts) ys₁))) (λ _ _ _ _ r ws. id⊢ 𝓤 _) (λ _ _. os)
       (λ v r zs₀ zs₁ is len₀ len₁ φ. subst (λ (u : Val). Seq K W (‵ (Mut R-Message κ₀ b₀ o₀ n₀ γ₀ zs₀) ∷ ‵ (flft κ₀ q₀) ∷ ‵ (Mut R-Row κ₁ b₁ o₁ n₁ γ₁ zs₁) ∷ ‵ (flft κ₁ q₁) ∷ Γ) (lands C Λ E d u rest p)) (sym (ap only (tells-Stepped r (v ∷ []) is))) (k zs₀ zs₁ r len₀ len₁ (subst (Is R-Stepped r) (tells-Stepped r (v ∷ []) is) is) (φ .0) (φ .1 .0) (φ .1 .1)))
+
+  -- ---- `pursue`
+  pub calls-pursue : K → FmC 𝓤 H (W .laws) C → (mem : Memory → SProp 𝓤) (run : Routine → Fun 𝓤) → Triple 𝓤 (C #advance·pursue) (Pursues 𝓤 H A mem run) → {κ₀ κ₁ : Lft} {q₀ q₁ : Share} {γ₀ γ₁ : GName} (b₀ o₀ n₀ b₁ o₁ n₁ : ℕ) (ys₀ : List Message) (ys₁ : List Row) → length ys₀ ≡ n₀ → length ys₁ ≡ n₁ → Room R-Message n₀ → Room R-Row n₁ → (bench : Bench) (event : Event) (asked : Asked) → Is R-Bench bench (vals-Bench bench) → Is R-Event event (vals-Event event) → Is R-Asked asked (vals-Asked asked) → tabled bench ys₀ ys₁ ≡ true → asked ≡ askedIn bench event ys₀
+      → ((P : SProp 𝓤) (L₁ L₀ T : Fml) → Opds K W (raw P ∷ ‵ L₁ ∷ ‵ L₀ ∷ ‵ T ∷ Γ) E xs (sliceVal (b₀, o₀) n₀ ∷ sliceVal (b₁, o₁) n₁ ∷ val-Bench bench ∷ val-Event event ∷ val-Asked asked ∷ []))
+      → ((zs₀ : List Message) (zs₁ : List Row) (r : Stepped) → length zs₀ ≡ n₀ → length zs₁ ≡ n₁ → Is R-Stepped r (vals-Stepped r) → Advanced bench event ys₀ ys₁ r zs₀ zs₁ → Seq K W (‵ (Mut R-Message κ₀ b₀ o₀ n₀ γ₀ zs₀) ∷ ‵ (flft κ₀ q₀) ∷ ‵ (Mut R-Row κ₁ b₁ o₁ n₁ γ₁ zs₁) ∷ ‵ (flft κ₁ q₁) ∷ Γ) (lands C Λ E d (val-Stepped r) rest p))
+      → Seq K W (‵ (Mut R-Message κ₀ b₀ o₀ n₀ γ₀ ys₀) ∷ ‵ (flft κ₀ q₀) ∷ ‵ (Mut R-Row κ₁ b₁ o₁ n₁ γ₁ ys₁) ∷ ‵ (flft κ₁ q₁) ∷ Γ) (runs C Λ E (seq (call #advance·pursue xs d) rest) p)
+  calls-pursue t fm mem run known {κ₀} {κ₁} {q₀} {q₁} {γ₀} {γ₁} b₀ o₀ n₀ b₁ o₁ n₁ ys₀ ys₁ e₀ e₁ room₀ room₁ bench event asked gbench gevent gasked h₀ h₁ os k =
+      calls-mut2 t fm R-Message R-Row (plain (λ _. R-Bench) ∷ plain (λ _. R-Event) ∷ plain (λ _. R-Asked) ∷ []) R-Stepped (yes, (yes, (yes, tt))) (pursue.clauses 𝓤 H A mem run) known b₀ o₀ n₀ b₁ o₁ n₁ ys₀ ys₁ e₀ e₁ room₀ room₁
+      (λ _ _. (bench, (event, (asked, tt)))) (λ _ _. (vals-Bench bench, (vals-Event event, (vals-Asked asked, tt))))
+      (λ _ _. owns-make 𝓤 H A (R-Bench ∷ R-Event ∷ R-Asked ∷ []) (Ises (R-Bench ∷ R-Event ∷ R-Asked ∷ [])) (makes-Bench 𝓤 H A, (makes-Event 𝓤 H A, (makes-Asked 𝓤 H A, tt))) (bench, (event, (asked, tt))) (vals-Bench bench, (vals-Event event, (vals-Asked asked, tt))) (gbench, (gevent, (gasked, tt))))
+      (λ _ _ _ _. tt) (λ _ _ _ _. factI 𝓤 ((tabled bench ys₀ ys₁ ≡ true) × (asked ≡ askedIn bench event ys₀)) (emp 𝓤) (h₀, h₁))
+      (λ r zs₀ zs₁. Advanced bench event ys₀ ys₁ r zs₀ zs₁) (λ _ _ _ _ r ws. id⊢ 𝓤 _) (λ _ _. os)
+      (λ v r zs₀ zs₁ is len₀ len₁ φ. subst (λ (u : Val). Seq K W (‵ (Mut R-Message κ₀ b₀ o₀ n₀ γ₀ zs₀) ∷ ‵ (flft κ₀ q₀) ∷ ‵ (Mut R-Row κ₁ b₁ o₁ n₁ γ₁ zs₁) ∷ ‵ (flft κ₁ q₁) ∷ Γ) (lands C Λ E d u rest p)) (sym (ap only (tells-Stepped r (v ∷ []) is))) (k zs₀ zs₁ r len₀ len₁ (subst (Is R-Stepped r) (tells-Stepped r (v ∷ []) is) is) φ))
 
   -- ---- `advance`
   pub calls-advance : K → FmC 𝓤 H (W .laws) C → (mem : Memory → SProp 𝓤) (run : Routine → Fun 𝓤) → Triple 𝓤 (C #advance·advance) (Advances 𝓤 H A mem run) → {κ₀ κ₁ : Lft} {q₀ q₁ : Share} {γ₀ γ₁ : GName} (b₀ o₀ n₀ b₁ o₁ n₁ : ℕ) (ys₀ : List Message) (ys₁ : List Row) → length ys₀ ≡ n₀ → length ys₁ ≡ n₁ → Room R-Message n₀ → Room R-Row n₁ → (bench : Bench) (event : Event) → Is R-Bench bench (vals-Bench bench) → Is R-Event event (vals-Event event) → tabled bench ys₀ ys₁ ≡ true

@@ -14,8 +14,9 @@ use Rattle.words.specs.declared.Rid.{Rid}
 use Rattle.words.specs.declared.Time.{Time}
 use Rattle.words.specs.Quorum.{joined, counted, majorityOf}
 use Rattle.replica.specs.declared.Answer.{Answer}
-use Rattle.replica.specs.declared.Counts.{Counts}
-use Rattle.replica.specs.declared.Counts.the-variants.{Not, For}
+use Rattle.replica.specs.declared.ResponseCounts.{ResponseCounts}
+use Rattle.replica.specs.declared.ResponseCounts.the-variants.{Not, For}
+use Rattle.replica.specs.declared.AckCounts.the-variants.{Not as NoAck, For as AckFor}
 use Rattle.replica.specs.declared.Ended.{Ended}
 use Rattle.replica.specs.declared.Ended.the-variants.{Pending, At}
 use Rattle.replica.specs.declared.Phase.{Phase}
@@ -58,7 +59,7 @@ crash-silent r = unless (λ (a : Answer). a .sends ≡ Nothing) (eqb (crashRefus
 abbrev pub Waited : Ended → Phase → Type 0
 Waited Pending phase = Unit {0}
 Waited (At time pair) Idle = ⊥
-Waited (At time pair) (Querying number best) = Unit {0}
+Waited (At time pair) (Querying number gathered) = Unit {0}
 Waited (At time pair) (Updating number sent) = Unit {0}
 
 -- of a message received
@@ -74,10 +75,10 @@ module _ (r : Replica) (n asked : ℕ) (from : Pid) (time : Time) (rid : Rid) (n
   unfolding updateReceived updateRule
   update-right x pair = unless (Right (r .phase)) (eqb (updateRefusal r from time rid x pair) 0) (updateRefusal r from time rid x pair) r (updateRule r from time rid x pair) (near, tt) (tt, tt)
 
-  response-taken : (c : Counts) (pair : Pair) → Right (r .phase) (responseTaken c r n asked from time pair)
+  response-taken : (c : ResponseCounts) (pair : Pair) → Right (r .phase) (responseTaken c r n asked from time pair)
   unfolding responseCounted
   response-taken Not pair = (tt, tt)
-  response-taken (For row best) pair = either (Right (r .phase)) (leb (majorityOf n) (counted (joined (r .repliers) (from .0)))) _ _ (tt, tt) (tt, tt)
+  response-taken (For row gathered) pair = either (Right (r .phase)) (leb (majorityOf n) (counted (joined (r .repliers) (from .0)))) _ _ (tt, tt) (tt, tt)
 
   response-right : (pair : Pair) → Right (r .phase) (responseReceived r n asked from time rid pair)
   unfolding responseReceived responseRule
@@ -91,10 +92,10 @@ module _ (r : Replica) (n asked : ℕ) (from : Pid) (time : Time) (rid : Rid) (n
 
   ack-taken : (phase : Phase) → Right phase (ackTaken (ackCounts phase (r .rid) rid) r n from time)
   ack-taken Idle = (tt, tt)
-  ack-taken (Querying number best) = (tt, tt)
+  ack-taken (Querying number gathered) = (tt, tt)
   ack-taken (Updating number sent) = go (eqb (rid .0) (r .rid .0))
     where
-      go : (u : Bool) → Right (Updating number sent) (ackTaken (cond u (For number sent) Not) r n from time)
+      go : (u : Bool) → Right (Updating number sent) (ackTaken (cond u (AckFor number sent) NoAck) r n from time)
       go true = ack-counted number number sent sent
       go false = (tt, tt)
 

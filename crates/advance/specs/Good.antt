@@ -122,7 +122,7 @@ table-is {A} d most n xs len le e =
 -- a waiting replica points to a row
 abbrev pub Points : List Row → Phase → Type 0
 Points rows Idle = Unit {0}
-Points rows (Querying number best) = (1 ≤ number) × (number ≤ length rows)
+Points rows (Querying number gathered) = (1 ≤ number) × (number ≤ length rows)
 Points rows (Updating number sent) = (1 ≤ number) × (number ≤ length rows)
 
 pending-within : (p k number : ℕ) (rows : List Row) → isOnly number (pendingOf p k rows) ≡ true → (k ≤ number) × (number < k + length rows)
@@ -141,7 +141,7 @@ only-within p number rows e = let (l, g) = pending-within p 1 number rows e in (
 
 phase-points : (s : State) (p : ℕ) (phase : Phase) (repliers : ℕ) → phaseFits s p phase repliers ≡ true → Points (s .rows) phase
 phase-points s p Idle repliers e = tt
-phase-points s p (Querying number best) repliers e = only-within p number (s .rows) (and-left _ _ (and-left (isOnly number (pendingOf p 1 (s .rows)) && _) _ e))
+phase-points s p (Querying number gathered) repliers e = only-within p number (s .rows) (and-left _ _ (and-left (isOnly number (pendingOf p 1 (s .rows)) && _) _ e))
 phase-points s p (Updating number sent) repliers e = only-within p number (s .rows) (and-left (isOnly number (pendingOf p 1 (s .rows))) _ e)
 
 replica-points : (s : State) (p : ℕ) (r : Replica) → replicaFits s p r ≡ true → Points (s .rows) (r .phase)

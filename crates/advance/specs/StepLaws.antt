@@ -85,7 +85,7 @@ rows-done : (s : State) → Good s → (ended : Ended) (phase : Phase) → Waite
     → set (laidRows s) (writtenAt (numberBy ended (pointed phase))) (rowBy ended (getD (s .rows) (pointed phase - 1) emptyRow)) ≡ laid 1024 emptyRow (answeredRows (s .rows) (pointed phase) ended)
 rows-done s g Pending phase w points = past-rows s g emptyRow
 rows-done s g (At time pair) Idle w points = absurd w
-rows-done s g (At time pair) (Querying number best) w points =
+rows-done s g (At time pair) (Querying number gathered) w points =
     ap (λ (i : ℕ). set (laidRows s) i (completed (getD (s .rows) (number - 1) emptyRow) time pair)) (written number (points .0))
     ∙ laid-set 1024 emptyRow (s .rows) (number - 1) (completed (getD (s .rows) (number - 1) emptyRow) time pair) (omega (arith, points .0, points .1))
 rows-done s g (At time pair) (Updating number sent) w points =
@@ -96,7 +96,7 @@ rows-done s g (At time pair) (Updating number sent) w points =
 
 asked-is : (s : State) (phase : Phase) → registerAsked phase (getD (s .rows) (pointed phase - 1) emptyRow) ≡ askedRegister s phase
 asked-is s Idle = refl
-asked-is s (Querying number best) = refl
+asked-is s (Querying number gathered) = refl
 asked-is s (Updating number sent) = refl
 
 body-is : (s : State) (r : Replica) (m : Message) (x : Body) → answerBy x (s .n) (askedRegister s (r .phase)) r m ≡ heardBy s r m x

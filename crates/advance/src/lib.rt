@@ -185,12 +185,26 @@ fn act(messages: &mut [Message], rows: &mut [Row], bench: Bench, event: Event, k
     conclude(&mut *messages, &mut *rows, w)
 }
 
+// The rest of an event, for which this was asked: its row is learned, and what follows is carried out.
+fn pursue(
+    messages: &mut [Message],
+    rows: &mut [Row],
+    bench: Bench,
+    event: Event,
+    asked: Asked,
+) -> Stepped
+    requires { ⌜ (tabled bench (now messages) (now rows) ≡ true) × (asked ≡ askedIn bench event (now messages)) ⌝ }
+    ensures { λ r. ⌜ Advanced bench event (now (messages .entry)) (now (rows .entry)) r (now (messages .exit)) (now (rows .exit)) ⌝ }
+{
+    let k = learn(&*rows, asked);
+    act(&mut *messages, &mut *rows, bench, event, k)
+}
+
 // One event, carried out on the bench and the two tables that it is tabled in.
 pub fn advance(messages: &mut [Message], rows: &mut [Row], bench: Bench, event: Event) -> Stepped
     requires { ⌜ tabled bench (now messages) (now rows) ≡ true ⌝ }
     ensures { λ r. ⌜ Advanced bench event (now (messages .entry)) (now (rows .entry)) r (now (messages .exit)) (now (rows .exit)) ⌝ }
 {
-    let a = ask(&*messages, bench, event);
-    let k = learn(&*rows, a);
-    act(&mut *messages, &mut *rows, bench, event, k)
+    let asked = ask(&*messages, bench, event);
+    pursue(&mut *messages, &mut *rows, bench, event, asked)
 }

@@ -17,9 +17,10 @@ use state::Event;
 use state::Stepped;
 use tables::Row;
 use words::Message;
+use words::limits::ROW_PLACES;
 
 // Past the last row.
-const NO_ROW: usize = 1024;
+const NO_ROW: usize = ROW_PLACES;
 
 fn tally(event: Event) -> Tally
     ensures { λ r. ⌜ r ≡ tallyOf event ⌝ }

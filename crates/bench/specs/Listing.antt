@@ -6,6 +6,7 @@ use mathlib.Core.List.{List, _++_}
 use lib.Dec.{eqb}
 use lib.ListN.{length, replicate}
 use Rattle.words.specs.declared.Message.{Message}
+use Rattle.words.specs.Limits.{mostRows}
 use Rattle.tables.specs.declared.Row.{Row}
 use Rattle.state.specs.declared.Bench.{Bench}
 use Rattle.state.specs.State.{view}
@@ -14,7 +15,7 @@ use Rattle.order.specs.Operations.{orderOf}
 use Rattle.bench.specs.declared.Ordered.{Ordered}
 
 abbrev pub canList : Bool → ℕ → Bool
-canList formed places = formed && eqb places 1024
+canList formed places = formed && eqb places mostRows
 
 abbrev pub listedReply : ℕ → Ordered
 listedReply count = record { refusal = 0; count = count }
@@ -24,7 +25,7 @@ unlisted = record { refusal = 18; count = 0 }
 
 -- a list of row numbers, with zeros behind it
 abbrev pub laidNumbers : List ℕ → List ℕ
-laidNumbers numbers = numbers ++ replicate (1024 - length numbers) 0
+laidNumbers numbers = numbers ++ replicate (mostRows - length numbers) 0
 
 unfoldable pub listReply : Bench → List Message → List Row → List ℕ → Ordered
 listReply b messages rows out = cond (canList (tabled b messages rows) (length out)) (listedReply (length (orderOf (view b messages rows .rows)))) unlisted

@@ -3,6 +3,7 @@ use Prim.Native.Nat.{ℕ}
 use mathlib.Core.Bool.{Bool, cond, not, _&&_}
 use lib.Dec.{eqb}
 use lib.ListN.{replicate}
+use Rattle.words.specs.Limits.{mostFlight, mostRows}
 use Rattle.words.specs.Ranges.{within}
 use Rattle.state.specs.declared.Bench.{Bench}
 use Rattle.state.specs.declared.Stepped.{Stepped}
@@ -35,7 +36,7 @@ startedBy refusal s = replied refusal (cond (eqb refusal 0) (benchOf s) noBench)
 -- from n, m, and the lengths of the two tables
 abbrev pub startRefusal : ℕ → ℕ → ℕ → ℕ → ℕ
 startRefusal n m messages rows =
-    check (not (eqb messages 512 && eqb rows 1024)) 18
+    check (not (eqb messages mostFlight && eqb rows mostRows)) 18
     (check (not (within n 7)) 4
     (check (not (within m 16)) 5 0))
 

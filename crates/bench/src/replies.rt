@@ -13,27 +13,20 @@ use standing::all_down;
 use standing::standings_of;
 use state::Bench;
 use state::Stepped;
-use words::ranges::PROCESSES;
-use words::ranges::REGISTERS;
+use words::limits::MESSAGE_PLACES;
+use words::limits::PROCESSES;
+use words::limits::REGISTERS;
+use words::limits::ROW_PLACES;
 use words::ranges::is_within;
-
-// Places of the two lent tables, and of the table of row numbers.
-const MESSAGES: usize = 512;
-
-const ROWS: usize = 1024;
-
-// Document 01's numbers of refusal.
-const NO_PROCESSES: u8 = 4;
-
-const NO_REGISTERS: u8 = 5;
-
-const NOT_FORMED: u8 = 18;
+use words::refusal::NO_PROCESSES;
+use words::refusal::NO_REGISTERS;
+use words::refusal::NOT_FORMED;
 
 // The first check that holds, 0 if none does.
 fn start_refusal(n: u8, m: u8, messages: usize, rows: usize) -> u8
     ensures { λ r. ⌜ r ≡ startRefusal n m messages rows ⌝ }
 {
-    if (messages == MESSAGES) & (rows == ROWS) {
+    if (messages == MESSAGE_PLACES) & (rows == ROW_PLACES) {
         if is_within(n, PROCESSES) {
             if is_within(m, REGISTERS) {
                 0
@@ -95,7 +88,7 @@ pub fn refused(b: Bench) -> Stepped
 pub fn can_list(formed: bool, places: usize) -> bool
     ensures { λ r. ⌜ r ≡ canList formed places ⌝ }
 {
-    formed & (places == ROWS)
+    formed & (places == ROW_PLACES)
 }
 
 pub fn listing(count: u16) -> Ordered

@@ -34,7 +34,7 @@ pub extern "C" fn wagonmoth_verdict(bytes: &[u8]) -> u8
 
 // The one number by which stamps are compared.
 #[no_mangle]
-pub extern "C" fn wagonmoth_rank(time: u16, process: u8) -> u64
+pub extern "C" fn wagonmoth_rank(time: u32, process: u8) -> u64
     ensures { λ r. ⌜ r ≡ time * 8 + process ⌝ }
 {
     rank_of(Stamp {

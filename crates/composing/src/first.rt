@@ -9,8 +9,8 @@ use crate::Opening;
 use crate::parting::part;
 use script::Fault;
 use script::Line;
-use words::ranges::PROCESSES;
-use words::ranges::REGISTERS;
+use words::limits::PROCESSES;
+use words::limits::REGISTERS;
 use words::ranges::is_within;
 
 // N and M have to be in range.

@@ -17,6 +17,7 @@ use crate::first::bench_in;
 use crate::rest::put_script;
 use crate::rest::survey;
 use buffer::Printed;
+use buffer::SHORT_OUTPUT;
 use script::Fault;
 use script::Line;
 use writing::file::put_head;
@@ -28,8 +29,6 @@ mod rest;
 
 // No complaint is longer.
 pub const LONGEST_COMPLAINT: usize = 66;
-
-const SHORT_OUTPUT: u8 = 19;
 
 // The size of the file, the line that is wrong and what is wrong with it, or an output that is shorter than the file.
 pub enum Composed {

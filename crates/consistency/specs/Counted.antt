@@ -10,6 +10,7 @@ use Rattle.words.specs.declared.Pair.{Pair}
 use Rattle.words.specs.QuorumLaws.{Inside, joined-only, joined-inside}
 use Rattle.words.specs.Stamps.{newer}
 use Rattle.words.specs.StampLaws.{atMost-transitive, newer-left, newer-right}
+use Rattle.replica.specs.declared.Gathered.{Gathered}
 use Rattle.state.specs.State.{State, rowOf}
 use Rattle.consistency.specs.Held.{Held, clockAt}
 use Rattle.consistency.specs.Moves.{Responds, Acks, reached, clockThen, repliersThen}
@@ -30,29 +31,29 @@ module _ {s t : State} {held after : Held} (sound : Sound s held) (kept : Kept s
   abbrev p : ℕ
   p = message .to .0
 
-  module _ (i : ℕ) (best pair : Pair) (r : Responds s message i best pair) where
-    pub asked-more : Asking t after p (rowOf s i) (newer best pair) (repliersThen s message)
+  module _ (i : ℕ) (gathered : Gathered) (pair : Pair) (r : Responds s message i gathered pair) where
+    pub asked-more : Asking t after p (rowOf s i) (newer (gathered .best) pair) (repliersThen s message)
     asked-more =
         let c = sound .flight message (r .flying) in
         let waits = sound .waits p (c .to-first) in
         let says = said c (r .body) in
-        let meant = says .meant i best (r .phase) (r .rid) in
-        let old = asking-kept kept p (rowOf s i) best (reached s message .repliers) (c .to-first) (waits .inside) (waits .asking i best (r .phase) .1) in
+        let meant = says .meant i gathered (r .phase) (r .rid) in
+        let old = asking-kept kept p (rowOf s i) (gathered .best) (reached s message .repliers) (c .to-first) (waits .inside) (waits .asking i gathered (r .phase) .1) in
         let own = below-kept kept (rowOf s i) (pair .stamp) (message .from .0) (c .from-first) (meant .0) in
         record {
           serves = record {
             own = old .serves .own;
             pending = old .serves .pending;
-            early = newer-is (λ pair. pair .stamp .time .0 ≤ clockAt t p) best pair (old .serves .early) (omega (arith, says .early));
-            source = newer-is (From (t .rows) (rowOf s i .register)) best pair (old .serves .source) (from-kept kept (rowOf s i .register) pair (meant .1));
+            early = newer-is (λ pair. pair .stamp .time .0 ≤ clockAt t p) (gathered .best) pair (old .serves .early) (omega (arith, says .early));
+            source = newer-is (From (t .rows) (rowOf s i .register)) (gathered .best) pair (old .serves .source) (from-kept kept (rowOf s i .register) pair (meant .1));
           };
           kind = old .kind;
           counted = λ k m.
               elim (joined-only (reached s message .repliers) (message .from .0) k m) [
-                | inl e ↦ rw (← e) (own .0, atMost-transitive _ (pair .stamp) (newer best pair .stamp) (own .1) (newer-right best pair))
+                | inl e ↦ rw (← e) (own .0, atMost-transitive _ (pair .stamp) (newer (gathered .best) pair .stamp) (own .1) (newer-right (gathered .best) pair))
                 | inr h ↦
                     let b = old .counted k h in
-                    (b .0, atMost-transitive _ (best .stamp) (newer best pair .stamp) (b .1) (newer-left best pair))
+                    (b .0, atMost-transitive _ (gathered .best .stamp) (newer (gathered .best) pair .stamp) (b .1) (newer-left (gathered .best) pair))
               ];
         }
 

@@ -111,8 +111,8 @@ module _ {s t : State} {held after : Held} (sound : Sound s held) (kept : Kept s
   move-entered (rests p c turn) = each-entered _ (turn .rows) old-entered
   move-entered (responds message x flying body turn) = each-entered _ (turn .rows) old-entered
   move-entered (stores message x pair flying body turn) = each-entered _ (turn .rows) old-entered
-  move-entered (counts message i best pair r turn) = each-entered _ (turn .rows) old-entered
-  move-entered (chooses message i best pair r enough turn) = each-entered _ (turn .rows) old-entered
+  move-entered (counts message i gathered pair r turn) = each-entered _ (turn .rows) old-entered
+  move-entered (chooses message i gathered pair r enough turn) = each-entered _ (turn .rows) old-entered
   move-entered (gathers message i sent a turn) = each-entered _ (turn .rows) old-entered
   move-entered (reads p x ready turn) = each-entered _ (turn .rows) (begun-entered _ (
       record {

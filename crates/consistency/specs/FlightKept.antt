@@ -15,6 +15,7 @@ use Rattle.replica.specs.declared.Letter.{Letter}
 use Rattle.replica.specs.declared.Phase.the-variants.{Querying, Updating}
 use Rattle.replica.specs.declared.Replica.{Replica}
 use Rattle.replica.specs.declared.Sends.{Sends}
+use Rattle.replica.specs.Gathering.{nothingGathered}
 use Rattle.replica.specs.Handlers.{stored, letter}
 use Rattle.tables.specs.declared.Row.{Row}
 use Rattle.state.specs.State.{State, replicaOf, rowOf}
@@ -53,13 +54,13 @@ module _ {s t : State} {held after : Held} (sound : Sound s held) (kept : Kept s
 
   module _ (p x clock rid : ℕ) (m : Message) (first : 1 ≤ x) (last : x ≤ 16) (own : replicaOf t p .rid .0 ≡ rid)
       (i : ℕ) (register : rowOf t i .register ≡ x) where
-    query-sent : Bears m p (letter clock rid (Query x)) → replicaOf t p .phase ≡ Querying i startPair → rowOf t i .invoked .0 ≤ clock
+    query-sent : Bears m p (letter clock rid (Query x)) → replicaOf t p .phase ≡ Querying i nothingGathered → rowOf t i .invoked .0 ≤ clock
         → Says t after m (Query x)
     query-sent b phase invoked =
         record {
           first = first;
           last = last;
-          meant = rw (b .sender) λ j best e f. subst (λ (j : ℕ). QueryOf m x (rowOf t j)) (cc) (register, omega (arith, b .time));
+          meant = rw (b .sender) λ j gathered e f. subst (λ (j : ℕ). QueryOf m x (rowOf t j)) (cc) (register, omega (arith, b .time));
         }
 
     update-sent : (pair : Pair) → Bears m p (letter clock rid (Update x pair)) → replicaOf t p .phase ≡ Updating i pair
@@ -134,7 +135,7 @@ module _ {s t : State} {held after : Held} (sound : Sound s held) (kept : Kept s
 
   pub move-flight : Move s t → (message : Message) → List·Memᴰ message (t .flight) → Carried t after message
   move-flight (rests p c turn) = turn-flight turn none-sent
-  move-flight (counts message i best pair r turn) = turn-flight turn none-sent
+  move-flight (counts message i gathered pair r turn) = turn-flight turn none-sent
   move-flight (gathers message i sent a turn) = turn-flight turn none-sent
   move-flight (completes message i sent a enough turn) = turn-flight turn none-sent
   move-flight (reads p x ready turn) = turn-flight turn λ m sent.
@@ -166,13 +167,13 @@ module _ {s t : State} {held after : Held} (sound : Sound s held) (kept : Kept s
       (ack-sent message x flying m (sent .1) pair body
       (subst (AtMost (pair .stamp)) (sym (store ∙ ap (λ (p : Pair). p .stamp) kept-pair)) (newer-right (stored (reached s message) x) pair))
       (own-clock turn) (sent .0))
-  move-flight (chooses message i best pair r enough turn) = turn-flight turn λ m sent.
+  move-flight (chooses message i gathered pair r enough turn) = turn-flight turn λ m sent.
       let c = sound .flight message (r .flying) in
-      let numbered = sound .waits (message .to .0) (c .to-first) .asking i best (r .phase) .0 in
+      let numbered = sound .waits (message .to .0) (c .to-first) .asking i gathered (r .phase) .0 in
       let row = sound .rows (i - 1) (omega arith) in
       let clock = own-clock turn in
-      let asked = asked-more sound kept message clock i best pair r in
+      let asked = asked-more sound kept message clock i gathered pair r in
       bears-carried m (message .to .0) _ (sent .0) (c .to-first) (c .to-last) (sent .1) (sent .2)
       (update-sent (message .to .0) (rowOf s i .register) (clockThen s message) _ m (row .register-first) (row .register-last) (own-rid turn)
       i (rw (turn .rows))
-      (newer best pair) (sent .0) (own-phase turn) (omega (arith, asked .serves .early)) (asked .serves .source))
+      (newer (gathered .best) pair) (sent .0) (own-phase turn) (omega (arith, asked .serves .early)) (asked .serves .source))

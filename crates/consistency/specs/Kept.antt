@@ -13,6 +13,7 @@ use Rattle.words.specs.declared.Pair.{Pair}
 use Rattle.words.specs.declared.Stamp.{Stamp}
 use Rattle.words.specs.QuorumLaws.{Inside, inside-members}
 use Rattle.words.specs.StampLaws.{AtMost, atMost-transitive}
+use Rattle.replica.specs.declared.Gathered.{Gathered}
 use Rattle.replica.specs.declared.Phase.the-variants.{Querying, Updating}
 use Rattle.replica.specs.declared.Replica.{Replica}
 use Rattle.tables.specs.declared.Kind.the-variants.{Write}
@@ -38,8 +39,8 @@ pub record RowsKept (rows after : List Row) : Type 0 where
 -- a process that waits afterwards has waited before for the same, or has a new request number
 pub record Traced (r after : Replica) : Type 0 where
   pub rid : r .rid .0 ≤ after .rid .0
-  pub asking : (i : ℕ) (best : Pair) → after .phase ≡ Querying i best
-      → (r .rid .0 < after .rid .0) ⊎ ((old : Pair) × (r .phase ≡ Querying i old) × (r .rid .0 ≡ after .rid .0))
+  pub asking : (i : ℕ) (gathered : Gathered) → after .phase ≡ Querying i gathered
+      → (r .rid .0 < after .rid .0) ⊎ ((old : Gathered) × (r .phase ≡ Querying i old) × (r .rid .0 ≡ after .rid .0))
   pub telling : (i : ℕ) (sent : Pair) → after .phase ≡ Updating i sent
       → (r .rid .0 < after .rid .0) ⊎ ((r .phase ≡ Updating i sent) × (r .rid .0 ≡ after .rid .0))
 
@@ -141,8 +142,8 @@ module _ {s t : State} {held after : Held} (kept : Kept s held t after) where
     pub while-asking : (p rid : ℕ) (Holds HoldsThen : Row → Type 0) → 1 ≤ p → rid ≤ replicaOf s p .rid .0
         → ((r then : Row) → RowKept r then → Holds r → HoldsThen then)
         → WhileAsking s p rid Holds → WhileAsking t p rid HoldsThen
-    while-asking p rid Holds HoldsThen first begun move meant i best e f =
-        elim (kept .traced p first .asking i best e) [
+    while-asking p rid Holds HoldsThen first begun move meant i gathered e f =
+        elim (kept .traced p first .asking i gathered e) [
           | inl l ↦ absurd (omega arith)
           | inr (old, g, h) ↦ move (rowOf s i) (rowOf t i) (row-kept i (waits p first .asking i old g .0)) (meant i old g (h ∙ f))
         ]

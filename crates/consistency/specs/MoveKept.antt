@@ -11,9 +11,11 @@ use Rattle.words.specs.declared.Pair.{Pair}
 use Rattle.words.specs.declared.Time.{Time}
 use Rattle.words.specs.Stamps.{startPair, newer}
 use Rattle.words.specs.StampLaws.{AtMost, atMost-reflexive, newer-left}
+use Rattle.replica.specs.declared.Gathered.{Gathered}
 use Rattle.replica.specs.declared.Phase.the-variants.{Querying}
 use Rattle.replica.specs.declared.Replica.{Replica}
 use Rattle.replica.specs.declared.Sends.{Sends}
+use Rattle.replica.specs.Gathering.{gatheredWith}
 use Rattle.replica.specs.Handlers.{stored}
 use Rattle.tables.specs.declared.Kind.{Kind}
 use Rattle.tables.specs.declared.Kind.the-variants.{Read, Write}
@@ -96,20 +98,20 @@ traced-same : (r after : Replica) → after .rid .0 ≡ r .rid .0 → after .pha
 traced-same r after e f =
     record {
       rid = omega arith;
-      asking = λ i best g. inr (best, sym f ∙ g, sym e);
+      asking = λ i gathered g. inr (gathered, sym f ∙ g, sym e);
       telling = λ i sent g. inr (sym f ∙ g, sym e);
     }
 
 traced-new : (r after : Replica) → r .rid .0 < after .rid .0 → Traced r after
-traced-new r after l = record { rid = omega arith; asking = λ i best g. inl l; telling = λ i sent g. inl l }
+traced-new r after l = record { rid = omega arith; asking = λ i gathered g. inl l; telling = λ i sent g. inl l }
 
 -- a better pair, for the same row
-traced-better : (r after : Replica) (i : ℕ) (best pair : Pair) → after .rid .0 ≡ r .rid .0
-    → r .phase ≡ Querying i best → after .phase ≡ Querying i pair → Traced r after
-traced-better r after i best pair e f g =
+traced-better : (r after : Replica) (i : ℕ) (gathered more : Gathered) → after .rid .0 ≡ r .rid .0
+    → r .phase ≡ Querying i gathered → after .phase ≡ Querying i more → Traced r after
+traced-better r after i gathered more e f g =
     record {
       rid = omega arith;
-      asking = λ j other h. inr (best, cc, sym e);
+      asking = λ j other h. inr (gathered, cc, sym e);
       telling = λ j sent h. let z : _≡_ {A = ℕ} 0 1 = cc in absurd (omega arith);
     }
 
@@ -155,11 +157,11 @@ module _ {s t : State} {held : Held} (sound : Sound s held) where
       (tells .first) (tells .last) (omega arith))
       (traced-same (reached s message) _ refl refl)
       (rows-same (s .rows))
-  move-kept (counts message i best pair r turn) =
+  move-kept (counts message i gathered pair r turn) =
       turn-kept turn (advance-same (reached s message) _ (omega arith) refl)
-      (traced-better (reached s message) _ i best (newer best pair) refl (r .phase) refl)
+      (traced-better (reached s message) _ i gathered (gatheredWith gathered pair) refl (r .phase) refl)
       (rows-same (s .rows))
-  move-kept (chooses message i best pair r enough turn) =
+  move-kept (chooses message i gathered pair r enough turn) =
       turn-kept turn (advance-same (reached s message) _ (omega arith) refl) (traced-new (reached s message) _ (omega arith)) (rows-same (s .rows))
   move-kept (gathers message i sent a turn) =
       turn-kept turn (advance-same (reached s message) _ (omega arith) refl) (traced-same (reached s message) _ refl (sym (a .phase))) (rows-same (s .rows))

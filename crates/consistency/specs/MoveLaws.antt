@@ -9,13 +9,14 @@ use lib.Seq.{getD-set-same, getD-set-other}
 use Rattle.words.specs.declared.Message.{Message}
 use Rattle.words.specs.declared.Pair.{Pair}
 use Rattle.words.specs.declared.Body.the-variants.{Query, Update}
-use Rattle.words.specs.Stamps.{startPair}
 use Rattle.replica.specs.declared.Answer.{Answer}
 use Rattle.replica.specs.declared.Ended.the-variants.{Pending}
+use Rattle.replica.specs.declared.Gathered.{Gathered}
 use Rattle.replica.specs.declared.Phase.the-variants.{Querying, Updating}
 use Rattle.replica.specs.declared.Replica.{Replica}
 use Rattle.replica.specs.declared.Sends.{Sends}
 use Rattle.replica.specs.declared.Sends.the-variants.{Nothing, Reply, Broadcast}
+use Rattle.replica.specs.Gathering.{nothingGathered}
 use Rattle.replica.specs.Handlers.{accepted}
 use Rattle.tables.specs.declared.Row.{Row}
 use Rattle.tables.specs.Tables.{emptyMessage, removed, copies, following}
@@ -116,8 +117,8 @@ module _ (s : State) (seven : length (s .replicas) ≡ 7) (few : s .n ≤ 7)
         turn s seven (messageAt s i .to .0) (accepted r sends Pending) (removed i (s .flight)) (s .delivered + 1) rows (range .0) (range .1)
         (λ m. removed-member i (s .flight))
 
-    counts-for : (row : ℕ) (best pair : Pair) → Response s i row best pair → Responds s (messageAt s i) row best pair
-    counts-for row best pair c = record { flying = flying; body = c .body; phase = c .phase; rid = sym (c .present) }
+    counts-for : (row : ℕ) (gathered : Gathered) (pair : Pair) → Response s i row gathered pair → Responds s (messageAt s i) row gathered pair
+    counts-for row gathered pair c = record { flying = flying; body = c .body; phase = c .phase; rid = sym (c .present) }
 
     acks-for : (row : ℕ) (sent : Pair) → Ack s i row sent → Acks s (messageAt s i) row sent
     acks-for row sent c = record { flying = flying; body = c .body; phase = c .phase; rid = sym (c .present) }
@@ -125,7 +126,7 @@ module _ (s : State) (seven : length (s .replicas) ≡ 7) (few : s .n ≤ 7)
   moves-on : {e : Event} {t : State} → EventMove s e t → Move s t
   moves-on (reading p x b) =
       reads (p .0) x (begins-ready b)
-      (begun-turn (p .0) x b (accepted (beginning s (p .0) (Querying (newRow s) startPair)) (asking s (p .0) (Query x)) Pending) _)
+      (begun-turn (p .0) x b (accepted (beginning s (p .0) (Querying (newRow s) nothingGathered)) (asking s (p .0) (Query x)) Pending) _)
   moves-on (writing p x value b) =
       let pair : Pair = writtenBy s (p .0) value in
       writes (p .0) x value (begins-ready b)
@@ -133,9 +134,9 @@ module _ (s : State) (seven : length (s .replicas) ≡ 7) (few : s .n ≤ 7)
   moves-on (responding k i x d e) = responds (messageAt s i) x (flying k i 1 d) e (received-turn k i 1 d _ _ _)
   moves-on (storing k i x pair d e) = stores (messageAt s i) x pair (flying k i 1 d) e (received-turn k i 1 d _ _ _)
   moves-on (discarding k i d c) = rests (messageAt s i .to .0) _ (received-turn k i 0 d _ _ _)
-  moves-on (counting k i row best pair d c l) = counts (messageAt s i) row best pair (counts-for k i 0 d row best pair c) (received-turn k i 0 d _ _ _)
-  moves-on (choosing k i row best pair d c l) =
-      chooses (messageAt s i) row best pair (counts-for k i (s .n) d row best pair c) l (received-turn k i (s .n) d _ _ _)
+  moves-on (counting k i row gathered pair d c l) = counts (messageAt s i) row gathered pair (counts-for k i 0 d row gathered pair c) (received-turn k i 0 d _ _ _)
+  moves-on (choosing k i row gathered pair d c l) =
+      chooses (messageAt s i) row gathered pair (counts-for k i (s .n) d row gathered pair c) l (received-turn k i (s .n) d _ _ _)
   moves-on (gathering k i row sent d c l) = gathers (messageAt s i) row sent (acks-for k i 0 d row sent c) (received-turn k i 0 d _ _ _)
   moves-on (completing k i row sent d c l) = completes (messageAt s i) row sent (acks-for k i 0 d row sent c) l (received-turn k i 0 d _ _ _)
   moves-on (crashes p a up) =

@@ -11,7 +11,8 @@ use Rattle.words.specs.declared.Body.the-variants.{Query, Response, Update, Ack
 use Rattle.words.specs.declared.Message.{Message}
 use Rattle.words.specs.declared.Pair.{Pair}
 use Rattle.words.specs.Quorum.{joined, counted, majorityOf}
-use Rattle.words.specs.Stamps.{stampOf, startPair, newer}
+use Rattle.words.specs.Stamps.{stampOf, newer}
+use Rattle.replica.specs.declared.Gathered.{Gathered}
 use Rattle.replica.specs.declared.Letter.{Letter}
 use Rattle.replica.specs.declared.Phase.{Phase}
 use Rattle.replica.specs.declared.Phase.the-variants.{Idle, Querying, Updating}
@@ -19,6 +20,7 @@ use Rattle.replica.specs.declared.Replica.{Replica}
 use Rattle.replica.specs.declared.Sends.{Sends}
 use Rattle.replica.specs.declared.Sends.the-variants.{Nothing, Reply, Broadcast}
 use Rattle.replica.specs.Clock.{after}
+use Rattle.replica.specs.Gathering.{nothingGathered, gatheredWith}
 use Rattle.replica.specs.Handlers.{became, stored, broadcastOf, replyOf}
 use Rattle.tables.specs.declared.Row.{Row}
 use Rattle.state.specs.State.{State, replicaOf, rowOf}
@@ -87,10 +89,10 @@ abbrev pub repliersThen : State → Message → ℕ
 repliersThen s message = joined (reached s message .repliers) (message .from .0)
 
 -- a response that counts for row i
-pub record Responds (s : State) (message : Message) (i : ℕ) (best pair : Pair) : Type 0 where
+pub record Responds (s : State) (message : Message) (i : ℕ) (gathered : Gathered) (pair : Pair) : Type 0 where
   pub flying : List·Memᴰ message (s .flight)
   pub body : message .body ≡ Response pair
-  pub phase : reached s message .phase ≡ Querying i best
+  pub phase : reached s message .phase ≡ Querying i gathered
   pub rid : reached s message .rid .0 ≡ message .rid .0
 
 -- an ack that counts for row i
@@ -107,7 +109,7 @@ crashedAs c r =
     record { crashed = c; clock = r .clock; rid = r .rid; phase = r .phase; repliers = r .repliers; pairs = r .pairs }
 
 abbrev pub asking : Replica → ℕ → Replica
-asking r i = became r (r .clock .0 + 1) (r .rid .0 + 1) (Querying i startPair) (r .repliers) (r .pairs)
+asking r i = became r (r .clock .0 + 1) (r .rid .0 + 1) (Querying i nothingGathered) (r .repliers) (r .pairs)
 
 abbrev pub telling : Replica → ℕ → Pair → Replica
 telling r i pair = became r (r .clock .0 + 1) (r .rid .0 + 1) (Updating i pair) (r .repliers) (r .pairs)
@@ -152,13 +154,13 @@ pub data Move (s t : State) : Type 0 where
       (replyOf (message .from) (clockThen s message) (message .rid .0) Ack)
       (s .rows)
       → Move s t
-  counts : (message : Message) (i : ℕ) (best pair : Pair) → Responds s message i best pair
-      → Turn s t (message .to .0) (counting s message (Querying i (newer best pair))) Nothing (s .rows)
+  counts : (message : Message) (i : ℕ) (gathered : Gathered) (pair : Pair) → Responds s message i gathered pair
+      → Turn s t (message .to .0) (counting s message (Querying i (gatheredWith gathered pair))) Nothing (s .rows)
       → Move s t
-  chooses : (message : Message) (i : ℕ) (best pair : Pair) → Responds s message i best pair
+  chooses : (message : Message) (i : ℕ) (gathered : Gathered) (pair : Pair) → Responds s message i gathered pair
       → majorityOf (s .n) ≤ counted (repliersThen s message)
-      → Turn s t (message .to .0) (ending s message (Updating i (newer best pair)))
-      (broadcastOf (clockThen s message) (reached s message .rid .0 + 1) (Update (rowOf s i .register) (newer best pair)))
+      → Turn s t (message .to .0) (ending s message (Updating i (newer (gathered .best) pair)))
+      (broadcastOf (clockThen s message) (reached s message .rid .0 + 1) (Update (rowOf s i .register) (newer (gathered .best) pair)))
       (s .rows)
       → Move s t
   gathers : (message : Message) (i : ℕ) (sent : Pair) → Acks s message i sent

@@ -15,6 +15,7 @@ use Rattle.words.specs.Quorum.{member, counted, majorityOf}
 use Rattle.words.specs.QuorumLaws.{Inside}
 use Rattle.words.specs.Stamps.{stampOf, startPair}
 use Rattle.words.specs.StampLaws.{AtMost}
+use Rattle.replica.specs.declared.Gathered.{Gathered}
 use Rattle.replica.specs.declared.Phase.the-variants.{Idle, Querying, Updating}
 use Rattle.replica.specs.Numbers.{pointed}
 use Rattle.tables.specs.declared.Kind.the-variants.{Read, Write}
@@ -95,15 +96,15 @@ IsRow s i = (1 ≤ i) × (i ≤ length (s .rows))
 pub record Waits (s : State) (held : Held) (q : ℕ) : Type 0 where
   pub inside : Inside (s .n) (replicaOf s q .repliers)
   pub idle : replicaOf s q .phase ≡ Idle → replicaOf s q .repliers ≡ 0
-  pub asking : (i : ℕ) (best : Pair) → replicaOf s q .phase ≡ Querying i best
-      → IsRow s i × Asking s held q (rowOf s i) best (replicaOf s q .repliers)
+  pub asking : (i : ℕ) (gathered : Gathered) → replicaOf s q .phase ≡ Querying i gathered
+      → IsRow s i × Asking s held q (rowOf s i) (gathered .best) (replicaOf s q .repliers)
   pub telling : (i : ℕ) (sent : Pair) → replicaOf s q .phase ≡ Updating i sent
       → IsRow s i × Telling s held q (rowOf s i) sent (replicaOf s q .repliers)
 
 -- ---- a message in flight, by its body. `p` is the process whose request it is
 
 abbrev pub WhileAsking : State → ℕ → ℕ → (Row → Type 0) → Type 0
-WhileAsking s p rid Holds = (i : ℕ) (best : Pair) → replicaOf s p .phase ≡ Querying i best → replicaOf s p .rid .0 ≡ rid → Holds (rowOf s i)
+WhileAsking s p rid Holds = (i : ℕ) (gathered : Gathered) → replicaOf s p .phase ≡ Querying i gathered → replicaOf s p .rid .0 ≡ rid → Holds (rowOf s i)
 
 abbrev pub WhileTelling : State → ℕ → ℕ → (Row → Pair → Type 0) → Type 0
 WhileTelling s p rid Holds = (i : ℕ) (sent : Pair) → replicaOf s p .phase ≡ Updating i sent → replicaOf s p .rid .0 ≡ rid → Holds (rowOf s i) sent

@@ -54,8 +54,8 @@ module _ {s t : State} {held after : Held} (sound : Sound s held) (kept : Kept s
   move-stores (reads p x ready turn) = turn-same turn refl
   move-stores (writes p x value ready turn) = turn-same turn refl
   move-stores (responds message x flying body turn) = turn-same turn refl
-  move-stores (counts message i best pair r turn) = turn-same turn refl
-  move-stores (chooses message i best pair r enough turn) = turn-same turn refl
+  move-stores (counts message i gathered pair r turn) = turn-same turn refl
+  move-stores (chooses message i gathered pair r enough turn) = turn-same turn refl
   move-stores (gathers message i sent a turn) = turn-same turn refl
   move-stores (completes message i sent a enough turn) = turn-same turn refl
   move-stores (stores message x pair flying body turn) = turn-stores turn own

@@ -162,8 +162,8 @@ module _ {s : State} (t : State) {held : Held} (sound : Sound s held) where
   move-turns (rests p c turn) = same-turns turn refl
   move-turns (responds message x flying body turn) = same-turns turn refl
   move-turns (stores message x pair flying body turn) = same-turns turn refl
-  move-turns (counts message i best pair r turn) = same-turns turn (sym (ap pointed (r .phase)))
-  move-turns (chooses message i best pair r enough turn) = same-turns turn (sym (ap pointed (r .phase)))
+  move-turns (counts message i gathered pair r turn) = same-turns turn (sym (ap pointed (r .phase)))
+  move-turns (chooses message i gathered pair r enough turn) = same-turns turn (sym (ap pointed (r .phase)))
   move-turns (gathers message i sent a turn) = same-turns turn (sym (ap pointed (a .phase)))
   move-turns (reads p x ready turn) =
       ordered-turns _ (turn .rows)

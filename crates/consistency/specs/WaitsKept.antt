@@ -12,10 +12,12 @@ use Rattle.words.specs.declared.Message.{Message}
 use Rattle.words.specs.declared.Pair.{Pair}
 use Rattle.words.specs.Quorum.{member}
 use Rattle.words.specs.QuorumLaws.{Inside, inside-empty, inside-members}
-use Rattle.words.specs.Stamps.{startPair, newer}
+use Rattle.words.specs.Stamps.{newer}
+use Rattle.replica.specs.declared.Gathered.{Gathered}
 use Rattle.replica.specs.declared.Phase.the-variants.{Idle, Querying, Updating}
 use Rattle.replica.specs.declared.Replica.{Replica}
 use Rattle.replica.specs.declared.Sends.{Sends}
+use Rattle.replica.specs.Gathering.{nothingGathered, gatheredWith}
 use Rattle.tables.specs.declared.Row.{Row}
 use Rattle.tables.specs.Tables.{emptyRow}
 use Rattle.state.specs.State.{State, replicaOf, rowOf}
@@ -41,21 +43,21 @@ module _ (t : State) (after : Held) (p : ℕ) (r : Replica) (own : replicaOf t p
       record {
         inside = rw repliers inside;
         idle = λ f. repliers ∙ z;
-        asking = λ i best f. let z : _≡_ {A = ℕ} 0 1 = cc in absurd (omega arith);
+        asking = λ i gathered f. let z : _≡_ {A = ℕ} 0 1 = cc in absurd (omega arith);
         telling = λ i sent f. let z : _≡_ {A = ℕ} 0 1 = cc in absurd (omega arith);
       }
 
-  now-asking : (i : ℕ) (best : Pair) (row : Row) → r .phase ≡ Querying i best → IsRow t i → rowOf t i ≡ row
-      → Asking t after p row best (r .repliers) → Waits t after p
-  now-asking i best row e n g a =
+  now-asking : (i : ℕ) (gathered : Gathered) (row : Row) → r .phase ≡ Querying i gathered → IsRow t i → rowOf t i ≡ row
+      → Asking t after p row (gathered .best) (r .repliers) → Waits t after p
+  now-asking i gathered row e n g a =
       let phase = ap (λ (r : Replica). r .phase) own in
       let repliers = ap (λ (r : Replica). r .repliers) own in
       record {
         inside = rw repliers inside;
         idle = λ f. let z : _≡_ {A = ℕ} 0 1 = cc in absurd (omega arith);
         asking = λ j other f.
-            subst₂ (λ (j : ℕ) (other : Pair). IsRow t j × Asking t after p (rowOf t j) other (replicaOf t p .repliers)) (cc) (cc)
-            (n, subst₂ (λ (row : Row) (set : ℕ). Asking t after p row best set) (sym g) (sym repliers) a);
+            subst₂ (λ (j : ℕ) (other : Gathered). IsRow t j × Asking t after p (rowOf t j) (other .best) (replicaOf t p .repliers)) (cc) (cc)
+            (n, subst₂ (λ (row : Row) (set : ℕ). Asking t after p row (gathered .best) set) (sym g) (sym repliers) a);
         telling = λ j sent f. let z : _≡_ {A = ℕ} 0 1 = cc in absurd (omega arith);
       }
 
@@ -67,7 +69,7 @@ module _ (t : State) (after : Held) (p : ℕ) (r : Replica) (own : replicaOf t p
       record {
         inside = rw repliers inside;
         idle = λ f. let z : _≡_ {A = ℕ} 0 1 = cc in absurd (omega arith);
-        asking = λ j best f. let z : _≡_ {A = ℕ} 0 1 = cc in absurd (omega arith);
+        asking = λ j gathered f. let z : _≡_ {A = ℕ} 0 1 = cc in absurd (omega arith);
         telling = λ j other f.
             subst₂ (λ (j : ℕ) (other : Pair). IsRow t j × Telling t after p (rowOf t j) other (replicaOf t p .repliers)) (cc) (cc)
             (n, subst₂ (λ (row : Row) (set : ℕ). Telling t after p row sent set) (sym g) (sym repliers) a);
@@ -94,10 +96,10 @@ module _ {s t : State} {held after : Held} (sound : Sound s held) (kept : Kept s
       record {
         inside = rw (repliers, kept .processes) (old .inside);
         idle = λ e. repliers ∙ old .idle (sym phase ∙ e);
-        asking = λ i best e.
-            let (n, a) = old .asking i best (sym phase ∙ e) in (
+        asking = λ i gathered e.
+            let (n, a) = old .asking i gathered (sym phase ∙ e) in (
               numbered-kept i n,
-              rw (rows i n (a .serves .own), repliers) (asking-kept kept q (rowOf s i) best (replicaOf s q .repliers) first (old .inside) a),
+              rw (rows i n (a .serves .own), repliers) (asking-kept kept q (rowOf s i) (gathered .best) (replicaOf s q .repliers) first (old .inside) a),
             );
         telling = λ i sent e.
             let (n, a) = old .telling i sent (sym phase ∙ e) in (
@@ -138,7 +140,7 @@ module _ {s t : State} {held after : Held} (sound : Sound s held) (kept : Kept s
           let old = sound .waits p first in
           let empty = old .idle (ready .idle) in
           let last = last-row (s .rows) (t .rows) _ (turn .rows) in
-          now-asking t after p _ (turn .own) (rw (kept .processes) (old .inside)) (length (s .rows) + 1) startPair _ refl (last .0) (last .1)
+          now-asking t after p _ (turn .own) (rw (kept .processes) (old .inside)) (length (s .rows) + 1) nothingGathered _ refl (last .0) (last .1)
           (record {
             serves = record { own = refl; pending = refl; early = omega arith; source = inl refl };
             kind = refl;
@@ -162,27 +164,27 @@ module _ {s t : State} {held after : Held} (sound : Sound s held) (kept : Kept s
             written = λ e. refl;
             asked = λ e. let z : _≡_ {A = ℕ} 0 1 = cc in absurd (omega arith);
           })
-  move-waits (counts message i best pair r turn) = turn-waits turn (λ i n f. refl) own
+  move-waits (counts message i gathered pair r turn) = turn-waits turn (λ i n f. refl) own
     where
       clock : clockAt t (message .to .0) ≡ clockThen s message
       clock = own-clock turn
 
       own : 1 ≤ message .to .0 → Waits t after (message .to .0)
       own first =
-          now-asking t after (message .to .0) _ (turn .own) (rw (kept .processes) (repliers-inside sound message (r .flying))) i (newer best pair) _ refl
-          (numbered-kept i (sound .waits (message .to .0) first .asking i best (r .phase) .0))
+          now-asking t after (message .to .0) _ (turn .own) (rw (kept .processes) (repliers-inside sound message (r .flying))) i (gatheredWith gathered pair) _ refl
+          (numbered-kept i (sound .waits (message .to .0) first .asking i gathered (r .phase) .0))
           (rw (turn .rows))
-          (asked-more sound kept message clock i best pair r)
-  move-waits (chooses message i best pair r enough turn) = turn-waits turn (λ i n f. refl) own
+          (asked-more sound kept message clock i gathered pair r)
+  move-waits (chooses message i gathered pair r enough turn) = turn-waits turn (λ i n f. refl) own
     where
       clock : clockAt t (message .to .0) ≡ clockThen s message
       clock = own-clock turn
 
       own : 1 ≤ message .to .0 → Waits t after (message .to .0)
       own first =
-          let asked = asked-more sound kept message clock i best pair r in
-          now-telling t after (message .to .0) _ (turn .own) (inside-empty (t .n)) i (newer best pair) _ refl
-          (numbered-kept i (sound .waits (message .to .0) first .asking i best (r .phase) .0))
+          let asked = asked-more sound kept message clock i gathered pair r in
+          now-telling t after (message .to .0) _ (turn .own) (inside-empty (t .n)) i (newer (gathered .best) pair) _ refl
+          (numbered-kept i (sound .waits (message .to .0) first .asking i gathered (r .phase) .0))
           (rw (turn .rows))
           (record {
             serves = asked .serves;

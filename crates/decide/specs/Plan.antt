@@ -74,7 +74,7 @@ writePlan c p x value r =
 -- the register that a querying replica asks for, which its row has; any other asks for none, and 1 stands in
 abbrev pub registerAsked : Phase → Row → ℕ
 registerAsked Idle row = 1
-registerAsked (Querying number best) row = row .register
+registerAsked (Querying number gathered) row = row .register
 registerAsked (Updating number sent) row = 1
 
 abbrev pub answerBy : Body → ℕ → ℕ → Replica → Message → Answer

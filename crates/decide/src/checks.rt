@@ -4,33 +4,23 @@ ghost use Rattle.decide.specs.Checks.{full, invokeChecks, deliverChecks,
 ghost use Rattle.state.specs.Step.{check, noRoom};
 ghost use Prim.Native.Nat.{_-_};
 use crate::Counters;
-use words::ranges::EVENTS;
-use words::ranges::ROWS;
+use words::limits::EVENTS;
+use words::limits::FLIGHT;
+use words::limits::ROWS;
 use words::ranges::is_within;
+use words::refusal::BOTH_UP;
+use words::refusal::CRASHED;
+use words::refusal::FULL;
+use words::refusal::NO_MESSAGE;
+use words::refusal::NO_PROCESS;
+use words::refusal::NO_REGISTER;
+use words::refusal::NO_ROOM;
+use words::refusal::NO_ROW;
+use words::refusal::PENDING;
+use words::refusal::RECIPIENT_CRASHED;
 
 // Places for messages in flight.
-const ROOM: u32 = 512;
-
-// Document 01's numbers of refusal.
-const NO_PROCESS: u8 = 8;
-
-const NO_REGISTER: u8 = 9;
-
-const CRASHED: u8 = 10;
-
-const PENDING: u8 = 11;
-
-const NO_MESSAGE: u8 = 12;
-
-const RECIPIENT_CRASHED: u8 = 13;
-
-const BOTH_UP: u8 = 14;
-
-const NO_ROOM: u8 = 15;
-
-const NO_ROW: u8 = 16;
-
-const FULL: u8 = 17;
+const ROOM: u32 = FLIGHT as u32;
 
 pub fn first(holds: bool, number: u8, later: u8) -> u8
     ensures { λ r. ⌜ r ≡ check holds number later ⌝ }

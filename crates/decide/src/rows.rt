@@ -1,7 +1,7 @@
 // The rows of the history: how one begins and how it is completed.
 ghost use mathlib.Core.Path.{_≡_};
 ghost use Rattle.decide.specs.Plan.{registerAsked, numberBy, rowBy};
-ghost use Rattle.state.specs.Step.{readRow, writeRow, completed};
+ghost use Rattle.state.specs.Step.{begunRow, readRow, writeRow, completed};
 use replica::Ended;
 use replica::Phase;
 use tables::Kind;
@@ -11,38 +11,39 @@ use words::Pid;
 use words::Stamp;
 use words::Time;
 
-pub fn read_row(p: u8, x: u8, clock: Time) -> Row
-    ensures { λ r. ⌜ r ≡ readRow p x (clock .0) ⌝ }
+// A row at its invocation, which is pending.
+fn begun_row(p: u8, kind: Kind, x: u8, clock: Time, stamp: Stamp, value: i64) -> Row
+    ensures { λ r. ⌜ r ≡ begunRow p kind x (clock .0) stamp value ⌝ }
 {
     Row {
         process: Pid(p),
-        kind: Kind::Read,
+        kind: kind,
         register: x,
         invoked: clock,
         answered: Time(0),
-        stamp: Stamp {
-            time: Time(0),
-            process: Pid(0),
-        },
-        value: 0,
+        stamp: stamp,
+        value: value,
     }
+}
+
+pub fn read_row(p: u8, x: u8, clock: Time) -> Row
+    ensures { λ r. ⌜ r ≡ readRow p x (clock .0) ⌝ }
+{
+    let none = Stamp {
+        time: Time(0),
+        process: Pid(0),
+    };
+    begun_row(p, Kind::Read, x, clock, none, 0)
 }
 
 pub fn write_row(p: u8, x: u8, value: i64, clock: Time) -> Row
     ensures { λ r. ⌜ r ≡ writeRow p x value (clock .0) ⌝ }
 {
-    Row {
+    let stamp = Stamp {
+        time: clock,
         process: Pid(p),
-        kind: Kind::Write,
-        register: x,
-        invoked: clock,
-        answered: Time(0),
-        stamp: Stamp {
-            time: clock,
-            process: Pid(p),
-        },
-        value: value,
-    }
+    };
+    begun_row(p, Kind::Write, x, clock, stamp, value)
 }
 
 // A completed read has the pair it chose; a write keeps its own.

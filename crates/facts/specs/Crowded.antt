@@ -9,6 +9,7 @@ use Rattle.words.specs.Quorum.{joined}
 use Rattle.words.specs.Stamps.{startPair}
 use Rattle.replica.specs.declared.Phase.the-variants.{Querying}
 use Rattle.replica.specs.declared.Replica.{Replica}
+use Rattle.replica.specs.Gathering.{nothingGathered}
 use Rattle.replica.specs.Handlers.{letter}
 use Rattle.tables.specs.declared.Row.{Row}
 use Rattle.state.specs.State.{State, freshReplica}
@@ -48,7 +49,7 @@ asking =
       crashed = false;
       clock = record { 0 = 1 };
       rid = record { 0 = 1 };
-      phase = Querying 1 startPair;
+      phase = Querying 1 nothingGathered;
       repliers = joined (joined (joined 0 1) 2) 3;
       pairs = replicate 16 startPair;
     }

@@ -14,7 +14,7 @@ use Rattle.figures.specs.declared.Waits.{Waits}
 use Rattle.figures.specs.declared.History.{History}
 use Rattle.figures.specs.Figures.{countIf, isReadRow, isWriteRow, isComplete, operationsOf, waitsOf, sumOf, lesser, leastOf, greatestOf, figuresOf, historyOf}
 use Rattle.figures.specs.Figures.{plusOperations, plusWaits, plusHistory}
-use Rattle.figures.specs.Parts.{Few, HistoryRoom}
+use Rattle.figures.specs.Parts.{mostWait, Few, HistoryRoom}
 
 -- ---- counts
 
@@ -99,19 +99,19 @@ all-rows rows i c h e f = e ∙ ap (λ (j : ℕ). historyOf (take j rows)) f
 
 -- ---- how large
 
-pub none-few : (h : History) → h ≡ historyOf [] → Few (65535 * 0) h
-none-few h e = subst (Few (65535 * 0)) (sym e) (record { reads = omega arith; writes = omega arith; waits = omega arith })
+pub none-few : (h : History) → h ≡ historyOf [] → Few (mostWait * 0) h
+none-few h e = subst (Few (mostWait * 0)) (sym e) (record { reads = omega arith; writes = omega arith; waits = omega arith })
 
-pub few-more : (i : ℕ) (h k r : History) → Few (65535 * i) h → Few 65535 k → r ≡ plusHistory h k → Few (65535 * (i + 1)) r
+pub few-more : (i : ℕ) (h k r : History) → Few (mostWait * i) h → Few mostWait k → r ≡ plusHistory h k → Few (mostWait * (i + 1)) r
 few-more i h k r f g e =
-    subst (Few (65535 * (i + 1))) (sym e)
+    subst (Few (mostWait * (i + 1))) (sym e)
     (record {
       reads = record { begun = omega (arith, f .reads .begun, g .reads .begun); completed = omega (arith, f .reads .completed, g .reads .completed) };
       writes = record { begun = omega (arith, f .writes .begun, g .writes .begun); completed = omega (arith, f .writes .completed, g .writes .completed) };
       waits = record { count = omega (arith, f .waits .count, g .waits .count); sum = omega (arith, f .waits .sum, g .waits .sum) };
     })
 
-pub few-room : (i : ℕ) (h k : History) → i < 65536 → Few (65535 * i) h → Few 65535 k → HistoryRoom h k
+pub few-room : (i : ℕ) (h k : History) → i < 65536 → Few (mostWait * i) h → Few mostWait k → HistoryRoom h k
 few-room i h k l f g =
     record {
       reads = record { begun = omega (arith, f .reads .begun, g .reads .begun); completed = omega (arith, f .reads .completed, g .reads .completed) };

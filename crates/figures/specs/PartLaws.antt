@@ -18,7 +18,7 @@ use Rattle.figures.specs.declared.Sheet.{Sheet}
 use Rattle.figures.specs.declared.Added.{Added}
 use Rattle.figures.specs.Figures.{one, isReadRow, isWriteRow, isComplete, operationsOf, in64, lesser, figuresOf, historyOf}
 use Rattle.figures.specs.Figures.{plusOperations, plusWaits, plusHistory, plusTraffic, operationsFit, waitsFit, historyFits, trafficFits, entered, sheetFits, addedOr28}
-use Rattle.figures.specs.Parts.{oneOperation, oneWait, FewOperations, FewWaits, Few, OperationsRoom, WaitsRoom, HistoryRoom, TrafficRoom, SheetRoom, fileNumber}
+use Rattle.figures.specs.Parts.{oneOperation, oneWait, mostWait, FewOperations, FewWaits, Few, OperationsRoom, WaitsRoom, HistoryRoom, TrafficRoom, SheetRoom, fileNumber}
 
 -- ---- what is made of parts that are what they are to be
 
@@ -85,25 +85,25 @@ row-is row reads writes waits e f g =
     ∙ ap (λ (x : Operations). made (operationsOf isReadRow (row ∷ [])) x waits) (f ∙ operation-is (isWriteRow row) (isComplete row))
     ∙ ap (λ (x : Waits). made (operationsOf isReadRow (row ∷ [])) (operationsOf isWriteRow (row ∷ [])) x) (g ∙ wait-is (isComplete row) (row .answered .0 - row .invoked .0))
 
-one-few : (b : Bool) → one b ≤ 65535
+one-few : (b : Bool) → one b ≤ mostWait
 one-few true = omega arith
 one-few false = omega arith
 
-operation-few : (counts complete : Bool) → FewOperations 65535 (oneOperation counts complete)
+operation-few : (counts complete : Bool) → FewOperations mostWait (oneOperation counts complete)
 operation-few counts complete = record { begun = one-few counts; completed = one-few (counts && complete) }
 
-wait-few : (complete : Bool) (wait : ℕ) → wait ≤ 65535 → FewWaits 65535 (oneWait complete wait)
+wait-few : (complete : Bool) (wait : ℕ) → wait ≤ mostWait → FewWaits mostWait (oneWait complete wait)
 wait-few true wait l = omega arith
 wait-few false wait l = omega arith
 
 pub row-few : (row : Row) (reads writes : Operations) (waits : Waits) → reads ≡ oneOperation (isReadRow row) (isComplete row)
     → writes ≡ oneOperation (isWriteRow row) (isComplete row) → waits ≡ oneWait (isComplete row) (row .answered .0 - row .invoked .0)
-    → row .answered .0 ≤ 65535 → Few 65535 (record { reads = reads; writes = writes; waits = waits })
+    → row .answered .0 ≤ mostWait → Few mostWait (record { reads = reads; writes = writes; waits = waits })
 row-few row reads writes waits e f g l =
     record {
-      reads = subst (FewOperations 65535) (sym e) (operation-few (isReadRow row) (isComplete row));
-      writes = subst (FewOperations 65535) (sym f) (operation-few (isWriteRow row) (isComplete row));
-      waits = subst (FewWaits 65535) (sym g) (wait-few (isComplete row) (row .answered .0 - row .invoked .0) (omega arith));
+      reads = subst (FewOperations mostWait) (sym e) (operation-few (isReadRow row) (isComplete row));
+      writes = subst (FewOperations mostWait) (sym f) (operation-few (isWriteRow row) (isComplete row));
+      waits = subst (FewWaits mostWait) (sym g) (wait-few (isComplete row) (row .answered .0 - row .invoked .0) (omega arith));
     }
 
 -- ---- tests

@@ -22,6 +22,10 @@ oneOperation counts complete = record { begun = one counts; completed = one (cou
 abbrev pub oneWait : Bool → ℕ → Waits
 oneWait complete wait = cond complete (figuresOf (wait ∷ [])) (figuresOf [])
 
+-- no wait is longer: a time is four bytes
+abbrev pub mostWait : ℕ
+mostWait = 4294967295
+
 -- no total is above a bound
 pub record FewOperations (most : ℕ) (a : Operations) : Type 0 where
   pub begun : a .begun ≤ most

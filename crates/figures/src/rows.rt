@@ -4,7 +4,7 @@ ghost use Prim.Native.Nat.{_-_};
 ghost use mathlib.Core.List.{[], _∷_};
 ghost use Rattle.state.specs.WellFormed.{isWrite};
 ghost use Rattle.figures.specs.Figures.{one, figuresOf, historyOf};
-ghost use Rattle.figures.specs.Parts.{oneOperation, oneWait, Few};
+ghost use Rattle.figures.specs.Parts.{oneOperation, oneWait, mostWait, Few};
 use crate::History;
 use crate::Operations;
 use crate::Waits;
@@ -40,7 +40,7 @@ fn one_operation(counts: bool, complete: bool) -> Operations
 }
 
 // How much later one time is than another.
-fn later_by(answered: u16, invoked: u16) -> u16
+fn later_by(answered: u32, invoked: u32) -> u32
     ensures { λ r. ⌜ r ≡ answered - invoked ⌝ }
 {
     if invoked < answered {
@@ -61,7 +61,7 @@ fn no_waits() -> Waits
 }
 
 // A wait, if it is over.
-fn one_wait(complete: bool, wait: u16) -> Waits
+fn one_wait(complete: bool, wait: u32) -> Waits
     ensures { λ r. ⌜ r ≡ oneWait complete wait ⌝ }
 {
     if complete {
@@ -76,7 +76,7 @@ fn one_wait(complete: bool, wait: u16) -> Waits
 }
 
 pub fn of_row(row: Row) -> History
-    ensures { λ r. ⌜ (r ≡ historyOf (row ∷ [])) × Few 65535 r ⌝ }
+    ensures { λ r. ⌜ (r ≡ historyOf (row ∷ [])) × Few mostWait r ⌝ }
 {
     let kind = row.kind;
     let write = is_write(kind);

@@ -8,11 +8,8 @@ use crate::Parse;
 use crate::numbers;
 use state::Event;
 use words::Pid;
-
-// Document 01's numbers of refusal.
-const UNKNOWN: u8 = 6;
-
-const CUT: u8 = 7;
+use words::refusal::CUT;
+use words::refusal::UNKNOWN;
 
 // The first byte of each event, and how many bytes it has.
 const READ: u8 = 1;

@@ -3,9 +3,14 @@ ghost use mathlib.Core.Path.{_≡_};
 ghost use mathlib.Core.Bool.{cond};
 ghost use Rattle.format.specs.Format.{fileRefusal};
 use crate::numbers::word_at;
-use words::ranges::PROCESSES;
-use words::ranges::REGISTERS;
+use words::limits::PROCESSES;
+use words::limits::REGISTERS;
 use words::ranges::is_within;
+use words::refusal::NO_PROCESSES;
+use words::refusal::NO_REGISTERS;
+use words::refusal::WRONG_LENGTH;
+use words::refusal::WRONG_SIZE;
+use words::refusal::WRONG_VERSION;
 
 const SHORTEST: usize = 7;
 
@@ -21,17 +26,6 @@ const VERSION_AT: usize = 4;
 const N_AT: usize = 5;
 
 const M_AT: usize = 6;
-
-// Document 01's numbers of refusal.
-const WRONG_SIZE: u8 = 1;
-
-const WRONG_LENGTH: u8 = 2;
-
-const WRONG_VERSION: u8 = 3;
-
-const NO_PROCESSES: u8 = 4;
-
-const NO_REGISTERS: u8 = 5;
 
 // The first that holds is given.
 fn first(holds: bool, number: u8, later: u8) -> u8

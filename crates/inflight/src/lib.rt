@@ -8,6 +8,7 @@ ghost use Rattle.schedule.specs.Opening.{runReply};
 ghost use Rattle.buffer.specs.Printing.{printReply, printLeft, Fronts};
 ghost use Rattle.inflight.specs.Flight.{messageLines, messagesLeft, inFlight};
 use buffer::Printed;
+use buffer::SHORT_OUTPUT;
 use schedule::run;
 use state::Stepped;
 use tables::empty_message;
@@ -15,18 +16,14 @@ use tables::empty_row;
 use tables::message_at;
 use text::lines::put_refusal;
 use words::Message;
+use words::limits::MESSAGE_PLACES;
+use words::limits::ROW_PLACES;
 
 mod lines;
 mod parts;
 
-const MESSAGES: usize = 512;
-
-const ROWS: usize = 1024;
-
 // No text is longer.
 pub const LONGEST_TEXT: usize = 73728;
-
-const SHORT_OUTPUT: u8 = 19;
 
 // The lines of the first `count` messages.
 fn put_messages(buf: &mut [u8], messages: &[Message], count: u16) -> usize
@@ -47,7 +44,7 @@ fn put_messages(buf: &mut [u8], messages: &[Message], count: u16) -> usize
 fn run_messages(messages: &mut [Message], bytes: &[u8]) -> Stepped
     ensures { λ r. ⌜ (r ≡ runReply (length (now (messages .entry))) 1024 (now (bytes .entry))) × (now (messages .exit) ≡ messagesLeft (now (bytes .entry)) (now (messages .entry))) ⌝ }
 {
-    let mut rows = [empty_row(); ROWS];
+    let mut rows = [empty_row(); ROW_PLACES];
     run(&mut *messages, &mut rows, bytes)
 }
 
@@ -56,7 +53,7 @@ fn flight_into(out: &mut [u8], bytes: &[u8]) -> usize
     requires { ⌜ 73728 ≤ length (now out) ⌝ }
     ensures { λ r. ⌜ Wrote 0 (inFlight (now (bytes .entry))) 73728 (now (out .entry)) (now (out .exit)) r ⌝ }
 {
-    let mut messages = [empty_message(); MESSAGES];
+    let mut messages = [empty_message(); MESSAGE_PLACES];
     let ran = run_messages(&mut messages, bytes);
     if parts::is_begun(ran) {
         let count = parts::flight_of(ran);

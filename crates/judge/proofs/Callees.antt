@@ -44,6 +44,10 @@ use Rattle.tables.proofs.Calls.{calls-ref, calls-plain, Shr}
 use Rattle.judge.specs.Scans.{limitsOf, limited, startMessages, scanMessage, scanMessages, startRows, scanRow, scanRows, judged}
 use Rattle.judge.proofs.counts.limits_of as limits-of
 use Rattle.judge.proofs.counts.limits_of.Symbol.{name as #judge·counts·limits-of}
+use Rattle.judge.proofs.counts.flight_of as flight-of
+use Rattle.judge.proofs.counts.flight_of.Symbol.{name as #judge·counts·flight-of}
+use Rattle.judge.proofs.counts.rows_of as rows-of
+use Rattle.judge.proofs.counts.rows_of.Symbol.{name as #judge·counts·rows-of}
 use Rattle.judge.proofs.messages.start_messages as start-messages
 use Rattle.judge.proofs.messages.start_messages.Symbol.{name as #judge·messages·start-messages}
 use Rattle.judge.proofs.messages.scan_message as scan-message
@@ -62,6 +66,12 @@ use Rattle.judge.proofs.scan_rows.Symbol.{name as #judge·scan-rows}
 module _ {M : Type 1} (𝓤 : URA M) (H : Heap 𝓤) (A : Atoms 𝓤) (mem : Memory → SProp 𝓤) (run : Routine → Fun 𝓤) where
   abbrev pub LimitsOf : Contract 𝓤
   LimitsOf = tripleOf 𝓤 H A limits-of.signature (limits-of.spec 𝓤 H A mem run)
+
+  abbrev pub FlightOf : Contract 𝓤
+  FlightOf = tripleOf 𝓤 H A flight-of.signature (flight-of.spec 𝓤 H A mem run)
+
+  abbrev pub RowsOf : Contract 𝓤
+  RowsOf = tripleOf 𝓤 H A rows-of.signature (rows-of.spec 𝓤 H A mem run)
 
   abbrev pub StartMessages : Contract 𝓤
   StartMessages = tripleOf 𝓤 H A start-messages.signature (start-messages.spec 𝓤 H A mem run)
@@ -98,6 +108,32 @@ module _ {M : Type 1} {𝓤 : URA M} {H : Heap 𝓤} {A : Atoms 𝓤} {K : Type 
       tt (id⊢ 𝓤 _) (λ r. r ≡ limitsOf b) (λ r ws. id⊢ 𝓤 _) os
       (λ v r is φ. subst (λ (u : Val). Seq K W Γ (lands C Λ E d u rest p)) (sym (ap only (tellsLimits r (v ∷ []) is ∙ ap valsLimits φ)))
       (k (subst (λ (x : Limits). Is RLimits x (valsLimits x)) φ (subst (Is RLimits r) (tellsLimits r (v ∷ []) is) is))))
+
+  -- ---- `flight_of(b)`
+  pub calls-flight-of : K → FmC 𝓤 H (W .laws) C → (mem : Memory → SProp 𝓤) (run : Routine → Fun 𝓤) → Triple 𝓤 (C #judge·counts·flight-of) (FlightOf 𝓤 H A mem run)
+      → (b : Bench) → Is RBench b (valsBench b)
+      → ((P : SProp 𝓤) → Opds K W (raw P ∷ Γ) E xs (valBench b ∷ []))
+      → (b .flight < 2 ^ 16 → Seq K W Γ (lands C Λ E d (vint w16 (b .flight)) rest p))
+      → Seq K W Γ (runs C Λ E (seq (call #judge·counts·flight-of xs d) rest) p)
+  calls-flight-of t fm mem run known b gb os k =
+      calls-plain t fm (plain (λ _. RBench) ∷ []) u16 (yes, tt) (flight-of.clauses 𝓤 H A mem run) known
+      (b, tt) (valsBench b, tt)
+      (owns-make 𝓤 H A (RBench ∷ []) (Ises (RBench ∷ [])) (makesBench 𝓤 H A, tt) (b, tt) (valsBench b, tt) (gb, tt))
+      tt (id⊢ 𝓤 _) (λ r. r ≡ b .flight) (λ r ws. id⊢ 𝓤 _) os
+      (λ v r is φ. subst (λ (u : Val). Seq K W Γ (lands C Λ E d u rest p)) (sym (ap only (is .0) ∙ ap (vint w16) φ)) (k (subst (λ (x : ℕ). x < 2 ^ 16) φ (is .1))))
+
+  -- ---- `rows_of(b)`
+  pub calls-rows-of : K → FmC 𝓤 H (W .laws) C → (mem : Memory → SProp 𝓤) (run : Routine → Fun 𝓤) → Triple 𝓤 (C #judge·counts·rows-of) (RowsOf 𝓤 H A mem run)
+      → (b : Bench) → Is RBench b (valsBench b)
+      → ((P : SProp 𝓤) → Opds K W (raw P ∷ Γ) E xs (valBench b ∷ []))
+      → (b .rows < 2 ^ 16 → Seq K W Γ (lands C Λ E d (vint w16 (b .rows)) rest p))
+      → Seq K W Γ (runs C Λ E (seq (call #judge·counts·rows-of xs d) rest) p)
+  calls-rows-of t fm mem run known b gb os k =
+      calls-plain t fm (plain (λ _. RBench) ∷ []) u16 (yes, tt) (rows-of.clauses 𝓤 H A mem run) known
+      (b, tt) (valsBench b, tt)
+      (owns-make 𝓤 H A (RBench ∷ []) (Ises (RBench ∷ [])) (makesBench 𝓤 H A, tt) (b, tt) (valsBench b, tt) (gb, tt))
+      tt (id⊢ 𝓤 _) (λ r. r ≡ b .rows) (λ r ws. id⊢ 𝓤 _) os
+      (λ v r is φ. subst (λ (u : Val). Seq K W Γ (lands C Λ E d u rest p)) (sym (ap only (is .0) ∙ ap (vint w16) φ)) (k (subst (λ (x : ℕ). x < 2 ^ 16) φ (is .1))))
 
   -- ---- `start_messages(places, flight)`
   pub calls-start-messages : K → FmC 𝓤 H (W .laws) C → (mem : Memory → SProp 𝓤) (run : Routine → Fun 𝓤) → Triple 𝓤 (C #judge·messages·start-messages) (StartMessages 𝓤 H A mem run)

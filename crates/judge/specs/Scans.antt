@@ -6,6 +6,7 @@ use lib.Dec.{eqb, ltb, leb}
 use lib.ListN.{length, getD, set, replicate}
 use Rattle.words.specs.declared.Message.{Message}
 use Rattle.words.specs.declared.Pair.{Pair}
+use Rattle.words.specs.Limits.{mostEvents, mostFlight, mostRows}
 use Rattle.words.specs.Quorum.{counted, majorityOf}
 use Rattle.words.specs.Ranges.{within, pairFits, repliersFit}
 use Rattle.replica.specs.declared.Phase.{Phase}
@@ -41,13 +42,13 @@ limited l =
 
 abbrev pub countsJudged : Bench → Bool
 countsJudged b =
-    within (b .n) 7 && within (b .m) 16 && leb (b .accepted) 12000 && leb (b .sent) (7 * b .accepted)
+    within (b .n) 7 && within (b .m) 16 && leb (b .accepted) mostEvents && leb (b .sent) (7 * b .accepted)
     && eqb (b .sent) (b .delivered + b .lost + b .flight)
 
 -- ---- messages
 
 abbrev pub startMessages : ℕ → ℕ → Scan
-startMessages places flight = record { ok = eqb places 512 && leb flight 512; last = 0; left = flight }
+startMessages places flight = record { ok = eqb places mostFlight && leb flight mostFlight; last = 0; left = flight }
 
 abbrev pub scanMessage : State → Scan → Message → Scan
 scanMessage s at m =
@@ -84,7 +85,7 @@ notedIn waiting place r =
     (set waiting (r .process .0 - 1) (noted (getD waiting (r .process .0 - 1) noWaiting) place (isWrite (r .kind)))) waiting
 
 abbrev pub startRows : ℕ → ℕ → RowScan
-startRows places rows = record { ok = eqb places 1024 && leb rows 1024; left = rows; waiting = replicate 7 noWaiting }
+startRows places rows = record { ok = eqb places mostRows && leb rows mostRows; left = rows; waiting = replicate 7 noWaiting }
 
 -- the row at a place, counted from 0
 abbrev pub scanRow : State → ℕ → RowScan → Row → RowScan
@@ -110,7 +111,7 @@ isOne row w = w .some && not (w .several) && eqb (suc (w .place)) row
 
 abbrev pub phaseJudged : State → Waiting → Phase → ℕ → Bool
 phaseJudged s w Idle repliers = not (w .some) && eqb repliers 0
-phaseJudged s w (Querying row best) repliers = isOne row w && not (w .write) && pairFits (s .accepted) (s .n) best
+phaseJudged s w (Querying row gathered) repliers = isOne row w && not (w .write) && pairFits (s .accepted) (s .n) (gathered .best)
 phaseJudged s w (Updating row sent) repliers = isOne row w && pairFits (s .accepted) (s .n) sent
 
 abbrev pub replicaJudged : State → Waiting → Replica → Bool

@@ -62,9 +62,9 @@ under false b c d h = refl
 
 phase-same : (s : State) (p : ℕ) (phase : Phase) (repliers : ℕ) → phaseJudged (lim s) (waits p 0 noWaiting (s .rows)) phase repliers ≡ phaseFits s p phase repliers
 phase-same s p Idle repliers = ap (λ (t : Bool). t && eqb repliers 0) (waits-none p 0 (s .rows))
-phase-same s p (Querying row best) repliers =
-    ap (λ (t : Bool). t && not (waits p 0 noWaiting (s .rows) .write) && pairFits (s .accepted) (s .n) best) (waits-one p 0 row (s .rows))
-    ∙ under (isOnly row (pendingOf p 1 (s .rows))) (not (waits p 0 noWaiting (s .rows) .write)) (not (isWrite (rowOf s row .kind))) (pairFits (s .accepted) (s .n) best)
+phase-same s p (Querying row gathered) repliers =
+    ap (λ (t : Bool). t && not (waits p 0 noWaiting (s .rows) .write) && pairFits (s .accepted) (s .n) (gathered .best)) (waits-one p 0 row (s .rows))
+    ∙ under (isOnly row (pendingOf p 1 (s .rows))) (not (waits p 0 noWaiting (s .rows) .write)) (not (isWrite (rowOf s row .kind))) (pairFits (s .accepted) (s .n) (gathered .best))
     (λ h. ap not (waits-kind p 0 row (s .rows) h))
 phase-same s p (Updating row sent) repliers = ap (λ (t : Bool). t && pairFits (s .accepted) (s .n) sent) (waits-one p 0 row (s .rows))
 

@@ -3,9 +3,9 @@ ghost use mathlib.Core.Path.{_≡_};
 ghost use Rattle.judge.specs.Scans.{limitsOf, countsJudged};
 use crate::Limits;
 use state::Bench;
-use words::ranges::EVENTS;
-use words::ranges::PROCESSES;
-use words::ranges::REGISTERS;
+use words::limits::EVENTS;
+use words::limits::PROCESSES;
+use words::limits::REGISTERS;
 use words::ranges::is_within;
 
 pub fn limits_of(b: Bench) -> Limits
@@ -14,9 +14,22 @@ pub fn limits_of(b: Bench) -> Limits
     Limits {
         n: b.n,
         m: b.m,
-        accepted: b.accepted,
+        accepted: b.accepted as u32,
         sent: b.sent,
     }
+}
+
+// How many messages are in flight, and how many rows are in use.
+pub fn flight_of(b: Bench) -> u16
+    ensures { λ r. ⌜ r ≡ b .flight ⌝ }
+{
+    b.flight
+}
+
+pub fn rows_of(b: Bench) -> u16
+    ensures { λ r. ⌜ r ≡ b .rows ⌝ }
+{
+    b.rows
 }
 
 pub fn counts_fit(b: Bench) -> bool

@@ -21,7 +21,7 @@ mod rows;
 pub struct Limits {
     pub n: u8,
     pub m: u8,
-    pub accepted: u16,
+    pub accepted: u32,
     pub sent: u32,
 }
 
@@ -82,7 +82,9 @@ pub fn is_tabled(b: Bench, messages: &[Message], rows: &[Row]) -> bool
     ensures { λ r. ⌜ r ≡ tabled b (now (messages .entry)) (now (rows .entry)) ⌝ }
 {
     let l = counts::limits_of(b);
-    let seen = scan_messages(messages, b.flight, l);
-    let history = scan_rows(rows, b.rows, l);
+    let flight = counts::flight_of(b);
+    let used = counts::rows_of(b);
+    let seen = scan_messages(messages, flight, l);
+    let history = scan_rows(rows, used, l);
     replicas::judge(b, seen, history)
 }

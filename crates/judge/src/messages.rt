@@ -7,13 +7,10 @@ use crate::Limits;
 use crate::Scan;
 use words::Body;
 use words::Message;
+use words::limits::FLIGHT;
+use words::limits::MESSAGE_PLACES;
 use words::ranges::is_within;
 use words::ranges::pair_fits;
-
-// Places of the table, and the most messages in flight.
-const PLACES: usize = 512;
-
-const ROOM: u16 = 512;
 
 fn body_fits(l: Limits, body: Body) -> bool
     ensures { λ r. ⌜ r ≡ bodyFits (limited l) body ⌝ }
@@ -33,7 +30,7 @@ fn message_fits(l: Limits, m: Message) -> bool
     is_within(m.from.0, l.n)
         & is_within(m.to.0, l.n)
         & (m.time.0 <= l.accepted)
-        & (m.rid.0 as u32 <= 2 * (l.accepted as u32))
+        & (m.rid.0 as u64 <= 2 * (l.accepted as u64))
         & body_fits(l, body)
 }
 
@@ -65,7 +62,7 @@ pub fn start_messages(places: usize, flight: u16) -> Scan
     ensures { λ r. ⌜ r ≡ startMessages places flight ⌝ }
 {
     Scan {
-        ok: (places == PLACES) & (flight <= ROOM),
+        ok: (places == MESSAGE_PLACES) & (flight <= FLIGHT),
         last: 0,
         left: flight,
     }

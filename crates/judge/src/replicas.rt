@@ -22,9 +22,9 @@ use replica::Replica;
 use replica::phases::is_idle;
 use state::Bench;
 use words::Pair;
+use words::limits::PROCESSES;
 use words::quorum::majority;
 use words::quorum::size;
-use words::ranges::PROCESSES;
 use words::ranges::pair_fits;
 use words::ranges::repliers_fit;
 
@@ -76,8 +76,8 @@ fn phase_fits(l: Limits, w: Waiting, phase: Phase, repliers: u8) -> bool
 {
     match phase {
         Phase::Idle => !w.some & (repliers == 0),
-        Phase::Querying(row, best) => {
-            is_one(w, row) & !w.write & pair_fits(best, l.accepted, l.n)
+        Phase::Querying(row, gathered) => {
+            is_one(w, row) & !w.write & pair_fits(gathered.best, l.accepted, l.n)
         }
         Phase::Updating(row, sent) => is_one(w, row) & pair_fits(sent, l.accepted, l.n),
     }
@@ -91,7 +91,7 @@ fn replica_fits(l: Limits, w: Waiting, r: Replica) -> bool
     let phase = r.phase;
     let repliers = r.repliers;
     (r.clock.0 <= l.accepted)
-        & (r.rid.0 as u32 <= 2 * (l.accepted as u32))
+        & (r.rid.0 as u64 <= 2 * (l.accepted as u64))
         & stored_fit(l, l.m, pairs)
         & repliers_fit(l.n, repliers)
         & (size(repliers) < majority(l.n) as u32)

@@ -10,13 +10,11 @@ use crate::Waiting;
 use tables::Kind;
 use tables::Row;
 use words::Pair;
-use words::ranges::PROCESSES;
-use words::ranges::ROWS;
+use words::limits::PROCESSES;
+use words::limits::ROW_PLACES;
+use words::limits::ROWS;
 use words::ranges::is_within;
 use words::ranges::pair_fits;
-
-// Places of the history.
-const PLACES: usize = 1024;
 
 fn is_write(kind: Kind) -> bool
     ensures { λ r. ⌜ r ≡ isWrite kind ⌝ }
@@ -120,7 +118,7 @@ pub fn start_rows(places: usize, rows: u16) -> RowScan
         write: false,
     };
     RowScan {
-        ok: (places == PLACES) & (rows <= ROWS),
+        ok: (places == ROW_PLACES) & (rows <= ROWS),
         left: rows,
         waiting: [none; 7],
     }

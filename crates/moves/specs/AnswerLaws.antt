@@ -12,13 +12,17 @@ use Rattle.words.specs.declared.Pair.{Pair}
 use Rattle.words.specs.Quorum.{joined, counted, majorityOf}
 use Rattle.words.specs.Stamps.{newer}
 use Rattle.replica.specs.declared.Answer.{Answer}
-use Rattle.replica.specs.declared.Counts.{Counts}
-use Rattle.replica.specs.declared.Counts.the-variants.{Not, For}
+use Rattle.replica.specs.declared.AckCounts.{AckCounts}
+use Rattle.replica.specs.declared.AckCounts.the-variants.{Not as NoAck, For as AckFor}
 use Rattle.replica.specs.declared.Ended.the-variants.{Pending, At as Ended}
+use Rattle.replica.specs.declared.Gathered.{Gathered}
 use Rattle.replica.specs.declared.Phase.{Phase}
 use Rattle.replica.specs.declared.Phase.the-variants.{Idle, Querying, Updating}
 use Rattle.replica.specs.declared.Replica.{Replica}
+use Rattle.replica.specs.declared.ResponseCounts.{ResponseCounts}
+use Rattle.replica.specs.declared.ResponseCounts.the-variants.{Not, For}
 use Rattle.replica.specs.declared.Sends.the-variants.{Nothing}
+use Rattle.replica.specs.Gathering.{gatheredWith}
 use Rattle.replica.specs.Handlers.{accepted, discarded, stored, queryRule, updateRule}
 use Rattle.replica.specs.Handlers.{responseCounts, responseTaken, responseCounted, responseRule, ackCounts, ackTaken, ackCounted, ackRule}
 use Rattle.state.specs.State.{State, rowOf}
@@ -36,14 +40,14 @@ plain-accepts s r m (Query x) = refl
 plain-accepts s r m (Update x pair) = refl
 plain-accepts s r m (Response pair) = go (responseCounts (r .phase) (r .rid) (m .rid))
   where
-    go : (c : Counts) → responseTaken c r (s .n) (askedRegister s (r .phase)) (m .from) (m .time) pair .refusal ≡ 0
+    go : (c : ResponseCounts) → responseTaken c r (s .n) (askedRegister s (r .phase)) (m .from) (m .time) pair .refusal ≡ 0
     go Not = refl
-    go (For row best) = either-way (λ (a : Answer). a .refusal ≡ 0) (leb (majorityOf (s .n)) (counted (joined (r .repliers) (m .from .0)))) _ _ refl refl
+    go (For row gathered) = either-way (λ (a : Answer). a .refusal ≡ 0) (leb (majorityOf (s .n)) (counted (joined (r .repliers) (m .from .0)))) _ _ refl refl
 plain-accepts s r m Ack = go (ackCounts (r .phase) (r .rid) (m .rid))
   where
-    go : (c : Counts) → ackTaken c r (s .n) (m .from) (m .time) .refusal ≡ 0
-    go Not = refl
-    go (For row sent) = either-way (λ (a : Answer). a .refusal ≡ 0) (leb (majorityOf (s .n)) (counted (joined (r .repliers) (m .from .0)))) _ _ refl refl
+    go : (c : AckCounts) → ackTaken c r (s .n) (m .from) (m .time) .refusal ≡ 0
+    go NoAck = refl
+    go (AckFor row sent) = either-way (λ (a : Answer). a .refusal ≡ 0) (leb (majorityOf (s .n)) (counted (joined (r .repliers) (m .from .0)))) _ _ refl refl
 
 module _ (s : State) (i : ℕ) where
   abbrev pub answerAt : Answer
@@ -64,9 +68,9 @@ module _ (s : State) (i : ℕ) where
   update-answer x pair e = by-body (Update x pair) e
 
   -- a reply counts in the phase that it is of, with the request number that it bears
-  module _ (row : ℕ) (best pair : Pair) (c : Responds s i row best pair) where
+  module _ (row : ℕ) (gathered : Gathered) (pair : Pair) (c : Responds s i row gathered pair) where
     counted-response : answerAt
-        ≡ responseCounted (recipientAt s i) (s .n) (rowOf s row .register) (messageAt s i .from) (messageAt s i .time) row (newer best pair)
+        ≡ responseCounted (recipientAt s i) (s .n) (rowOf s row .register) (messageAt s i .from) (messageAt s i .time) row (gatheredWith gathered pair)
     unfolding responseRule
     counted-response =
         by-body (Response pair) (c .body)
@@ -74,13 +78,13 @@ module _ (s : State) (i : ℕ) where
         (askedRegister s phase) (messageAt s i .from) (messageAt s i .time) pair) (c .phase)
         ∙ rw (eq-eqb _ _ (c .present)) refl
 
-    pub counts-answer : counted (repliersThen s i) < needed s (Querying row best)
-        → answerAt ≡ accepted (counting s i (Querying row (newer best pair))) Nothing Pending
+    pub counts-answer : counted (repliersThen s i) < needed s (Querying row gathered)
+        → answerAt ≡ accepted (counting s i (Querying row (gatheredWith gathered pair))) Nothing Pending
     unfolding responseCounted
     counts-answer few = counted-response ∙ rw (lt-leb _ _ few) refl
 
-    pub chooses-answer : needed s (Querying row best) ≤ counted (repliersThen s i)
-        → answerAt ≡ accepted (ending s i (Updating row (newer best pair))) (telling s i (rowOf s row .register) (newer best pair)) Pending
+    pub chooses-answer : needed s (Querying row gathered) ≤ counted (repliersThen s i)
+        → answerAt ≡ accepted (ending s i (Updating row (newer (gathered .best) pair))) (telling s i (rowOf s row .register) (newer (gathered .best) pair)) Pending
     unfolding responseCounted
     chooses-answer enough = counted-response ∙ rw (le-leb _ _ enough) refl
 
@@ -114,14 +118,14 @@ module _ (s : State) (i : ℕ) where
           → responseTaken (responseCounts phase (recipientAt s i .rid) (messageAt s i .rid)) (recipientAt s i) (s .n) x
           (messageAt s i .from) (messageAt s i .time) pair ≡ discarded (recipientAt s i)
       response pair x Idle n = refl
-      response pair x (Querying row best) n = rw (ne-eqb _ _ (n refl)) refl
+      response pair x (Querying row gathered) n = rw (ne-eqb _ _ (n refl)) refl
       response pair x (Updating row sent) n = refl
 
       ack : (phase : Phase) → Another Stage.updating phase
           → ackTaken (ackCounts phase (recipientAt s i .rid) (messageAt s i .rid)) (recipientAt s i) (s .n)
           (messageAt s i .from) (messageAt s i .time) ≡ discarded (recipientAt s i)
       ack Idle n = refl
-      ack (Querying row best) n = refl
+      ack (Querying row gathered) n = refl
       ack (Updating row sent) n = rw (ne-eqb _ _ (n refl)) refl
 
       by : (body : Body) → isReply body ≡ true → Another (stageFor body) (recipientAt s i .phase)

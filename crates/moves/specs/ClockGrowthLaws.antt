@@ -104,9 +104,9 @@ move-grows {s} (writes p x value b) = begun-below s (p .0) _ _
 move-grows {s} (responds k i x d e) = received-below s i _ (replying s i (Response (stored (recipientAt s i) x))) (receipt-below s i) (receipt-below s i)
 move-grows {s} (stores k i x pair d e) = received-below s i _ (replying s i Ack) (receipt-below s i) (receipt-below s i)
 move-grows {s} (discards k i d c) = received-below s i _ Nothing (let own = own-below s (messageAt s i .to .0) in omega arith) (omega arith)
-move-grows {s} (counts k i row best pair d c l) = received-below s i _ Nothing (receipt-below s i) (omega arith)
-move-grows {s} (chooses k i row best pair d c l) =
-    received-below s i _ (telling s i (rowOf s row .register) (newer best pair)) (receipt-below s i) (receipt-below s i)
+move-grows {s} (counts k i row gathered pair d c l) = received-below s i _ Nothing (receipt-below s i) (omega arith)
+move-grows {s} (chooses k i row gathered pair d c l) =
+    received-below s i _ (telling s i (rowOf s row .register) (newer (gathered .best) pair)) (receipt-below s i) (receipt-below s i)
 move-grows {s} (gathers k i row sent d c l) = received-below s i _ Nothing (receipt-below s i) (omega arith)
 move-grows {s} (completes k i row sent d c l) = received-below s i _ Nothing (receipt-below s i) (omega arith)
 move-grows {s} (crashes p a up) =

@@ -195,10 +195,10 @@ move-after {s} w n (writes p x value b) = begun-after s w n (p .0) x b _ _ _ ref
 move-after {s} w n (responds k i x d e) = replied-after s w n k i 1 d _ _ (ap isReply e) refl (sym (ap stageFor e))
 move-after {s} w n (stores k i x pair d e) = replied-after s w n k i 1 d _ _ (ap isReply e) refl (sym (ap stageFor e))
 move-after {s} w n (discards k i d c) = discarded-after s w n k i 0 d (c .reply) c
-move-after {s} w n (counts k i row best pair d c l) =
+move-after {s} w n (counts k i row gathered pair d c l) =
     counted-after s w n k i 0 d (ap isReply (c .body)) _ (c .present) (sym (ap stageOf (c .phase)))
-move-after {s} w n (chooses k i row best pair d c l) =
-    ended-after s w n k i (s .n) d (ap isReply (c .body)) _ (telling s i (rowOf s row .register) (newer best pair)) _ (refl, refl, refl)
+move-after {s} w n (chooses k i row gathered pair d c l) =
+    ended-after s w n k i (s .n) d (ap isReply (c .body)) _ (telling s i (rowOf s row .register) (newer (gathered .best) pair)) _ (refl, refl, refl)
 move-after {s} w n (gathers k i row sent d c l) =
     counted-after s w n k i 0 d (ap isReply (c .body)) _ (c .present) (sym (ap stageOf (c .phase)))
 move-after {s} w n (completes k i row sent d c l) = ended-after s w n k i 0 d (ap isReply (c .body)) Idle Nothing _ refl

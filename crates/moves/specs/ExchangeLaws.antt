@@ -45,7 +45,7 @@ resting Stage.updating = false
 idle-stage : (phase : Phase) → isIdle phase ≡ resting (stageOf phase)
 unfolding resting
 idle-stage Idle = refl
-idle-stage (Querying row best) = refl
+idle-stage (Querying row gathered) = refl
 idle-stage (Updating row sent) = refl
 
 after-exchanging : {s t : State} → Exchanging s → After s t → Exchanging t

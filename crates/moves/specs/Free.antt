@@ -5,6 +5,7 @@ use mathlib.Core.Path.{_≡_}
 use mathlib.Core.Bool.{true, not}
 use lib.Dec.{leb}
 use lib.ListN.{length}
+use Rattle.words.specs.Limits.{mostRows}
 use Rattle.words.specs.Ranges.{within}
 use Rattle.replica.specs.Handlers.{isIdle}
 use Rattle.replica.specs.Numbers.{sentBy}
@@ -23,7 +24,7 @@ freeInvoke s p x =
     (check (not (within x (s .m))) 9
     (check (replicaOf s p .crashed) 10
     (check (not (isIdle (replicaOf s p .phase))) 11
-    (check (leb 1024 (length (s .rows))) 16
+    (check (leb mostRows (length (s .rows))) 16
     (check (noRoom (length (s .flight) + s .n)) 15 0)))))
 
 abbrev pub freeReceive : State → ℕ → ℕ

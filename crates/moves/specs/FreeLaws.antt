@@ -116,8 +116,8 @@ moves-free {s} (writes p x value b) = accepts s _ _ (begins-free s (p .0) x b)
 moves-free {s} (responds k i x d e) = delivered-free s k i 1 d _ (query-answer s i x e) refl
 moves-free {s} (stores k i x pair d e) = delivered-free s k i 1 d _ (update-answer s i x pair e) refl
 moves-free {s} (discards k i d e) = delivered-free s k i 0 d _ (discards-answer s i e) refl
-moves-free {s} (counts k i row best pair d c l) = delivered-free s k i 0 d _ (counts-answer s i row best pair c l) refl
-moves-free {s} (chooses k i row best pair d c l) = delivered-free s k i (s .n) d _ (chooses-answer s i row best pair c l) refl
+moves-free {s} (counts k i row gathered pair d c l) = delivered-free s k i 0 d _ (counts-answer s i row gathered pair c l) refl
+moves-free {s} (chooses k i row gathered pair d c l) = delivered-free s k i (s .n) d _ (chooses-answer s i row gathered pair c l) refl
 moves-free {s} (gathers k i row sent d c l) = delivered-free s k i 0 d _ (gathers-answer s i row sent c l) refl
 moves-free {s} (completes k i row sent d c l) =
     delivered-free s k i 0 d _ (completes-answer s i row sent c l) refl

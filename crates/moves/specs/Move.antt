@@ -10,15 +10,18 @@ use Rattle.words.specs.declared.Body.{Body}
 use Rattle.words.specs.declared.Body.the-variants.{Query, Response, Update, Ack}
 use Rattle.words.specs.declared.Pair.{Pair}
 use Rattle.words.specs.declared.Pid.{Pid}
+use Rattle.words.specs.Limits.{mostFlight, mostRows}
 use Rattle.words.specs.Quorum.{joined, counted}
-use Rattle.words.specs.Stamps.{stampOf, startPair, newer}
+use Rattle.words.specs.Stamps.{stampOf, newer}
 use Rattle.replica.specs.declared.Ended.the-variants.{Pending}
+use Rattle.replica.specs.declared.Gathered.{Gathered}
 use Rattle.replica.specs.declared.Phase.{Phase}
 use Rattle.replica.specs.declared.Phase.the-variants.{Idle, Querying, Updating}
 use Rattle.replica.specs.declared.Replica.{Replica}
 use Rattle.replica.specs.declared.Sends.{Sends}
 use Rattle.replica.specs.declared.Sends.the-variants.{Nothing}
 use Rattle.replica.specs.Clock.{after}
+use Rattle.replica.specs.Gathering.{nothingGathered, gatheredWith}
 use Rattle.replica.specs.Handlers.{accepted, broadcastOf, replyOf, stored, became as placed}
 use Rattle.tables.specs.declared.Found.the-variants.{At}
 use Rattle.tables.specs.declared.Row.{Row}
@@ -40,8 +43,8 @@ pub record Begins (s : State) (p x : ℕ) : Type 0 where
   pub register : Within x (s .m)
   pub up : replicaOf s p .crashed ≡ false
   pub idle : replicaOf s p .phase ≡ Idle
-  pub rows : length (s .rows) < 1024
-  pub room : length (s .flight) + s .n ≤ 512
+  pub rows : length (s .rows) < mostRows
+  pub room : length (s .flight) + s .n ≤ mostFlight
 
 abbrev pub newRow : State → ℕ
 newRow s = length (s .rows) + 1
@@ -73,7 +76,7 @@ writtenBy s p value = record { stamp = stampOf (nextClock s p) p; value = value 
 pub record Delivers (s : State) (k i count : ℕ) : Type 0 where
   pub found : seek k 0 (s .flight) ≡ At i
   pub up : recipientAt s i .crashed ≡ false
-  pub room : length (s .flight) - 1 + count ≤ 512
+  pub room : length (s .flight) - 1 + count ≤ mostFlight
 
 abbrev pub clockThen : State → ℕ → ℕ
 clockThen s i = after (recipientAt s i .clock .0) (messageAt s i .time .0)
@@ -109,9 +112,9 @@ arrived s i r sends rows =
     moved s (messageAt s i .to .0) (accepted r sends Pending) (removed i (s .flight)) (s .delivered + 1) rows
 
 -- a response that counts for the operation in row `row`
-pub record Responds (s : State) (i row : ℕ) (best pair : Pair) : Type 0 where
+pub record Responds (s : State) (i row : ℕ) (gathered : Gathered) (pair : Pair) : Type 0 where
   pub body : messageAt s i .body ≡ Response pair
-  pub phase : recipientAt s i .phase ≡ Querying row best
+  pub phase : recipientAt s i .phase ≡ Querying row gathered
   pub present : messageAt s i .rid .0 ≡ recipientAt s i .rid .0
 
 -- an ack that counts for it
@@ -138,7 +141,7 @@ crashedNow s p = moved s p (accepted (downNow (replicaOf s p)) Nothing Pending) 
 pub data Move (s : State) : Event → State → Type 0 where
   -- a read begins: it queries
   reads : (p : Pid) (x : ℕ) → Begins s (p .0) x
-      → Move s (Read p x) (begun s (p .0) (Querying (newRow s) startPair) (Query x) (readRow (p .0) x (nextClock s (p .0))))
+      → Move s (Read p x) (begun s (p .0) (Querying (newRow s) nothingGathered) (Query x) (readRow (p .0) x (nextClock s (p .0))))
   -- a write begins: it updates with its own stamp
   writes : (p : Pid) (x : ℕ) (value : ℤ) → Begins s (p .0) x
       → Move s (Write p x value)
@@ -153,12 +156,14 @@ pub data Move (s : State) : Event → State → Type 0 where
   -- a reply that does not count is taken off, and nothing else changes
   discards : (k i : ℕ) → Delivers s k i 0 → Discarded s i → Move s (Deliver k) (arrived s i (recipientAt s i) Nothing (s .rows))
   -- a response is counted, and more are needed
-  counts : (k i row : ℕ) (best pair : Pair) → Delivers s k i 0 → Responds s i row best pair → counted (repliersThen s i) < needed s (Querying row best)
-      → Move s (Deliver k) (arrived s i (counting s i (Querying row (newer best pair))) Nothing (s .rows))
+  counts : (k i row : ℕ) (gathered : Gathered) (pair : Pair) → Delivers s k i 0 → Responds s i row gathered pair
+      → counted (repliersThen s i) < needed s (Querying row gathered)
+      → Move s (Deliver k) (arrived s i (counting s i (Querying row (gatheredWith gathered pair))) Nothing (s .rows))
   -- a response ends the query phase: the greatest pair is chosen, and all are told
-  chooses : (k i row : ℕ) (best pair : Pair) → Delivers s k i (s .n) → Responds s i row best pair → needed s (Querying row best) ≤ counted (repliersThen s i)
+  chooses : (k i row : ℕ) (gathered : Gathered) (pair : Pair) → Delivers s k i (s .n) → Responds s i row gathered pair
+      → needed s (Querying row gathered) ≤ counted (repliersThen s i)
       → Move s (Deliver k)
-      (arrived s i (ending s i (Updating row (newer best pair))) (telling s i (rowOf s row .register) (newer best pair)) (s .rows))
+      (arrived s i (ending s i (Updating row (newer (gathered .best) pair))) (telling s i (rowOf s row .register) (newer (gathered .best) pair)) (s .rows))
   -- an ack is counted, and more are needed
   gathers : (k i row : ℕ) (sent : Pair) → Delivers s k i 0 → Acks s i row sent → counted (repliersThen s i) < needed s (Updating row sent)
       → Move s (Deliver k) (arrived s i (counting s i (Updating row sent)) Nothing (s .rows))

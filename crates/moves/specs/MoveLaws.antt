@@ -11,6 +11,7 @@ use Rattle.words.specs.declared.Pair.{Pair}
 use Rattle.words.specs.Quorum.{counted}
 use Rattle.replica.specs.declared.Answer.{Answer}
 use Rattle.replica.specs.declared.Ended.the-variants.{Pending, At as Ended}
+use Rattle.replica.specs.declared.Gathered.{Gathered}
 use Rattle.replica.specs.declared.Phase.{Phase}
 use Rattle.replica.specs.declared.Phase.the-variants.{Idle, Querying, Updating}
 use Rattle.replica.specs.declared.Sends.the-variants.{Nothing}
@@ -61,22 +62,22 @@ module _ (s : State) (k i : ℕ) (found : seek k 0 (s .flight) ≡ At i) (up : r
   response-taken : (pair : Pair) → messageAt s i .body ≡ Response pair → Taken (answerAt s i)
   response-taken pair e = by (recipientAt s i .phase) refl
     where
-      counted-taken : (row : ℕ) (best : Pair) → Responds s i row best pair → Taken (answerAt s i)
-      counted-taken row best c =
-          elim (decLe (needed s (Querying row best)) (counted (repliersThen s i))) [
+      counted-taken : (row : ℕ) (gathered : Gathered) → Responds s i row gathered pair → Taken (answerAt s i)
+      counted-taken row gathered c =
+          elim (decLe (needed s (Querying row gathered)) (counted (repliersThen s i))) [
             | yes l ↦
-                taken-as _ (chooses-answer s i row best pair c l) (λ room. chooses k i row best pair (with-room (s .n) room) c l)
+                taken-as _ (chooses-answer s i row gathered pair c l) (λ room. chooses k i row gathered pair (with-room (s .n) room) c l)
             | no n ↦
-                let l : counted (repliersThen s i) < needed s (Querying row best) = omega arith in
-                taken-as _ (counts-answer s i row best pair c l) (λ room. counts k i row best pair (with-room 0 room) c l)
+                let l : counted (repliersThen s i) < needed s (Querying row gathered) = omega arith in
+                taken-as _ (counts-answer s i row gathered pair c l) (λ room. counts k i row gathered pair (with-room 0 room) c l)
           ]
 
       by : (phase : Phase) → recipientAt s i .phase ≡ phase → Taken (answerAt s i)
       by Idle f = other-phase (Response pair) Idle e f refl (λ g. let z : _≡_ {A = ℕ} 0 1 = cc in omega arith)
       by (Updating row sent) f = other-phase (Response pair) (Updating row sent) e f refl (λ g. let z : _≡_ {A = ℕ} 0 1 = cc in omega arith)
-      by (Querying row best) f =
+      by (Querying row gathered) f =
           elim (ℕ-discrete (messageAt s i .rid .0) (recipientAt s i .rid .0)) [
-            | yes g ↦ counted-taken row best (record { body = e; phase = f; present = g })
+            | yes g ↦ counted-taken row gathered (record { body = e; phase = f; present = g })
             | no n ↦ other-number (ap isReply e) n
           ]
 
@@ -106,7 +107,7 @@ module _ (s : State) (k i : ℕ) (found : seek k 0 (s .flight) ≡ At i) (up : r
 
       by : (phase : Phase) → recipientAt s i .phase ≡ phase → Taken (answerAt s i)
       by Idle f = other-phase Ack Idle e f refl (λ g. let z : _≡_ {A = ℕ} 0 1 = cc in omega arith)
-      by (Querying row best) f = other-phase Ack (Querying row best) e f refl (λ g. let z : _≡_ {A = ℕ} 0 1 = cc in omega arith)
+      by (Querying row gathered) f = other-phase Ack (Querying row gathered) e f refl (λ g. let z : _≡_ {A = ℕ} 0 1 = cc in omega arith)
       by (Updating row sent) f =
           elim (ℕ-discrete (messageAt s i .rid .0) (recipientAt s i .rid .0)) [
             | yes g ↦ counted-taken row sent (record { body = e; phase = f; present = g })
@@ -126,7 +127,7 @@ module _ (s : State) (k i : ℕ) (found : seek k 0 (s .flight) ≡ At i) (up : r
 
 pub is-idle : (phase : Phase) → isIdle phase ≡ true → phase ≡ Idle
 is-idle Idle e = refl
-is-idle (Querying row best) e = absurd (false≢true e)
+is-idle (Querying row gathered) e = absurd (false≢true e)
 is-idle (Updating row sent) e = absurd (false≢true e)
 
 invoked-begins : {s : State} {p x : ℕ} → Invoked s p x → Begins s p x

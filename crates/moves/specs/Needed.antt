@@ -8,5 +8,5 @@ use Rattle.state.specs.State.{State}
 -- an idle process waits for none; 1 stands in, which its empty set is below
 abbrev pub needed : State → Phase → ℕ
 needed s Idle = 1
-needed s (Querying row best) = majorityOf (s .n)
+needed s (Querying row gathered) = majorityOf (s .n)
 needed s (Updating row sent) = majorityOf (s .n)

@@ -81,7 +81,7 @@ none-fits s r e =
   where
     by : (phase : Phase) → counted 0 < needed s phase
     by Idle = omega (arith, counted-empty)
-    by (Querying row best) = omega (arith, counted-empty)
+    by (Querying row gathered) = omega (arith, counted-empty)
     by (Updating row sent) = omega (arith, counted-empty)
 
 -- in another state of the run
@@ -152,9 +152,9 @@ move-placed {s} w (responds k i x d e) =
     received-placed s w k i 1 d _ (replying s i (Response (stored (recipientAt s i) x))) _ (ends s w k i 1 d .sender) (same-fits s w k i 1 d _ refl refl)
 move-placed {s} w (stores k i x pair d e) = received-placed s w k i 1 d _ (replying s i Ack) _ (ends s w k i 1 d .sender) (same-fits s w k i 1 d _ refl refl)
 move-placed {s} w (discards k i d c) = received-placed s w k i 0 d _ Nothing _ tt (same-fits s w k i 0 d _ refl refl)
-move-placed {s} w (counts k i row best pair d c l) =
+move-placed {s} w (counts k i row gathered pair d c l) =
     received-placed s w k i 0 d _ Nothing _ tt (counted-fits s w k i 0 d _ refl l (λ f. let z : _≡_ {A = ℕ} 0 1 = cc in omega arith))
-move-placed {s} w (chooses k i row best pair d c l) = received-placed s w k i (s .n) d _ (telling s i (rowOf s row .register) (newer best pair)) _ tt (none-fits s _ refl)
+move-placed {s} w (chooses k i row gathered pair d c l) = received-placed s w k i (s .n) d _ (telling s i (rowOf s row .register) (newer (gathered .best) pair)) _ tt (none-fits s _ refl)
 move-placed {s} w (gathers k i row sent d c l) =
     received-placed s w k i 0 d _ Nothing _ tt (counted-fits s w k i 0 d _ refl l (λ f. let z : _≡_ {A = ℕ} 0 1 = cc in omega arith))
 move-placed {s} w (completes k i row sent d c l) = received-placed s w k i 0 d _ Nothing _ tt (none-fits s _ refl)
@@ -206,7 +206,7 @@ well-placed s w =
       where
         by : (phase : Phase) → r .phase ≡ phase → SetFits s r
         by Idle f = none-fits s r (subst (λ phase. PhaseOk s p phase (r .repliers)) f (o .phase) .1)
-        by (Querying row best) f =
+        by (Querying row gathered) f =
             record { inside = o .inside; few = rw f (o .few); empty = λ g. let z : _≡_ {A = ℕ} 0 1 = cc in absurd (omega arith) }
         by (Updating row sent) f =
             record { inside = o .inside; few = rw f (o .few); empty = λ g. let z : _≡_ {A = ℕ} 0 1 = cc in absurd (omega arith) }

@@ -28,7 +28,7 @@ pub data Stage : Type 0 where
 -- the phase without what it keeps, and the phase that a message is of
 abbrev pub stageOf : Phase → Stage
 stageOf Idle = Stage.idle
-stageOf (Querying row best) = Stage.querying
+stageOf (Querying row gathered) = Stage.querying
 stageOf (Updating row sent) = Stage.updating
 
 abbrev pub stageFor : Body → Stage

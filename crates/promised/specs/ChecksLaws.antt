@@ -15,9 +15,11 @@ use Rattle.words.specs.Quorum.{joined, counted, majorityOf}
 use Rattle.words.specs.Ranges.{within}
 use Rattle.words.specs.RangeLaws.{and-left, and-right}
 use Rattle.replica.specs.declared.Answer.{Answer}
-use Rattle.replica.specs.declared.Counts.{Counts}
-use Rattle.replica.specs.declared.Counts.the-variants.{Not, For}
+use Rattle.replica.specs.declared.AckCounts.{AckCounts}
+use Rattle.replica.specs.declared.AckCounts.the-variants.{Not as NoAck, For as AckFor}
 use Rattle.replica.specs.declared.Replica.{Replica}
+use Rattle.replica.specs.declared.ResponseCounts.{ResponseCounts}
+use Rattle.replica.specs.declared.ResponseCounts.the-variants.{Not, For}
 use Rattle.replica.specs.Handlers.{isIdle, readRule, writeRule, queryRule, updateRule, crashRule}
 use Rattle.replica.specs.Handlers.{responseCounts, responseTaken, responseCounted, responseRule, ackCounts, ackTaken, ackCounted, ackRule}
 use Rattle.tables.specs.declared.Found.{Found}
@@ -60,15 +62,15 @@ unfolding queryRule updateRule responseRule responseCounted ackRule ackCounted
 rules-accept s r message (Query x) = refl
 rules-accept s r message (Response pair) = go (responseCounts (r .phase) (r .rid) (message .rid))
   where
-    go : (c : Counts) → Accepts (responseTaken c r (s .n) (askedRegister s (r .phase)) (message .from) (message .time) pair)
+    go : (c : ResponseCounts) → Accepts (responseTaken c r (s .n) (askedRegister s (r .phase)) (message .from) (message .time) pair)
     go Not = refl
-    go (For row best) = either-way Accepts (leb (majorityOf (s .n)) (counted (joined (r .repliers) (message .from .0)))) _ _ refl refl
+    go (For row gathered) = either-way Accepts (leb (majorityOf (s .n)) (counted (joined (r .repliers) (message .from .0)))) _ _ refl refl
 rules-accept s r message (Update x pair) = refl
 rules-accept s r message Ack = go (ackCounts (r .phase) (r .rid) (message .rid))
   where
-    go : (c : Counts) → Accepts (ackTaken c r (s .n) (message .from) (message .time))
-    go Not = refl
-    go (For row sent) = either-way Accepts (leb (majorityOf (s .n)) (counted (joined (r .repliers) (message .from .0)))) _ _ refl refl
+    go : (c : AckCounts) → Accepts (ackTaken c r (s .n) (message .from) (message .time))
+    go NoAck = refl
+    go (AckFor row sent) = either-way Accepts (leb (majorityOf (s .n)) (counted (joined (r .repliers) (message .from .0)))) _ _ refl refl
 
 module _ (s : State) (w : Well s) (z : Sized s) where
   invocation-first : (p x later : ℕ) → (Invoked s p x → later ≡ 0) → invokeRefusal s p x later ≡ firstOf (eventChecks s (Read (record { 0 = p }) x))

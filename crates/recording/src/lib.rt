@@ -10,10 +10,9 @@ use order::fill_order;
 use replaying::run_history;
 use tables::empty_row;
 use text::lines::put_refusal;
+use words::limits::ROW_PLACES;
 
 mod parts;
-
-const ROWS: usize = 1024;
 
 // No file is longer.
 pub const LONGEST_FILE: usize = 14345;
@@ -23,7 +22,7 @@ fn history_into(out: &mut [u8], listing: &mut [u16], bytes: &[u8]) -> usize
     requires { ⌜ (14345 ≤ length (now out)) × (length (now listing) ≡ 1024) ⌝ }
     ensures { λ r. ⌜ Wrote 0 (recorded (now (bytes .entry))) 14345 (now (out .entry)) (now (out .exit)) r ⌝ }
 {
-    let mut rows = [empty_row(); ROWS];
+    let mut rows = [empty_row(); ROW_PLACES];
     let ran = run_history(&mut rows, bytes);
     let refusal = parts::refusal_of(ran);
     if parts::is_begun(ran) {
@@ -42,6 +41,6 @@ pub fn history(bytes: &[u8], out: &mut [u8]) -> usize
     if out.len() < LONGEST_FILE {
         return 0;
     }
-    let mut listing = [0u16; ROWS];
+    let mut listing = [0u16; ROW_PLACES];
     history_into(&mut *out, &mut listing, bytes)
 }

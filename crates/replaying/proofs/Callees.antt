@@ -39,6 +39,7 @@ use Rattle.state.specs.declared.Stepped.{Stepped}
 use Rattle.advance.proofs.Benches.{R as R-Bench, val as val-Bench, vals as vals-Bench, tells as tells-Bench, makes as makes-Bench}
 use Rattle.advance.proofs.Steppeds.{R as R-Stepped, val as val-Stepped, vals as vals-Stepped, tells as tells-Stepped, makes as makes-Stepped}
 use Rattle.text.specs.Printed.{printedRefusal}
+use Rattle.text.specs.Short.{ShortBench, ShortRows}
 use Rattle.text.specs.Written.{Wrote}
 use Rattle.text.proofs.lines.put_refusal as put-refusal
 use Rattle.text.proofs.lines.put_refusal.Symbol.{name as #text·lines·put-refusal}
@@ -122,7 +123,7 @@ module _ {M : Type 1} {𝓤 : URA M} {H : Heap 𝓤} {A : Atoms 𝓤} {K : Type 
   pub calls-put-report : K → FmC 𝓤 H (W .laws) C → (mem : Memory → SProp 𝓤) (run : Routine → Fun 𝓤) → Triple 𝓤 (C #report·put-report) (PutReport 𝓤 H A mem run)
       → {κ₀ κ₁ κ₂ : Lft} {q₀ q₁ q₂ : Share} {γ₀ γ₁ γ₂ : GName} (b₀ o₀ n₀ b₁ o₁ n₁ b₂ o₂ n₂ : ℕ) (ys₀ : List ℕ) (ys₁ : List Row) (ys₂ : List ℕ) → length ys₀ ≡ n₀ → Room u8 n₀
       → (bench : Bench) (refusal count : ℕ) → Is R-Bench bench (vals-Bench bench) → refusal < 2 ^ 8 → count < 2 ^ 64
-      → (81563 ≤ length ys₀) × ((bench .n ≤ 7) × ((bench .m ≤ 16) × ((bench .rows ≤ length ys₁) × ((bench .rows ≤ 1024) × ((count ≤ length ys₂) × (count ≤ 1024))))))
+      → (81563 ≤ length ys₀) × ((bench .n ≤ 7) × ((bench .m ≤ 16) × ((bench .rows ≤ length ys₁) × ((bench .rows ≤ 1024) × ((count ≤ length ys₂) × ((count ≤ 1024) × (ShortBench bench × ShortRows (bench .rows) ys₁)))))))
       → ((P : SProp 𝓤) (L₂ L₁ L₀ T U : Fml) → Opds K W (raw P ∷ ‵ L₂ ∷ ‵ L₁ ∷ ‵ L₀ ∷ ‵ T ∷ ‵ U ∷ Γ) E xs (sliceVal (b₀, o₀) n₀ ∷ val-Bench bench ∷ vint w8 refusal ∷ sliceVal (b₁, o₁) n₁ ∷ sliceVal (b₂, o₂) n₂ ∷ vint w64 count ∷ []))
       → ((r : ℕ) (zs : List ℕ) → r < 2 ^ 64 → length zs ≡ n₀ → Reported bench refusal ys₁ (take count ys₂) ys₀ zs r
       → Seq K W (‵ (Mut u8 κ₀ b₀ o₀ n₀ γ₀ zs) ∷ ‵ (flft κ₀ q₀) ∷ ‵ (Shr R-Row κ₁ b₁ o₁ n₁ γ₁ ys₁) ∷ ‵ (flft κ₁ q₁) ∷ ‵ (Shr u16 κ₂ b₂ o₂ n₂ γ₂ ys₂) ∷ ‵ (flft κ₂ q₂) ∷ Γ) (lands C Λ E d (vint w64 r) rest p))
@@ -132,7 +133,7 @@ module _ {M : Type 1} {𝓤 : URA M} {H : Heap 𝓤} {A : Atoms 𝓤} {K : Type 
       (λ _. (bench, (refusal, (slice b₁ o₁ γ₁ ys₁, (slice b₂ o₂ γ₂ ys₂, (count, tt)))))) (λ _. (vals-Bench bench, (vint w8 refusal ∷ [], (sliceVal (b₁, o₁) n₁ ∷ [], (sliceVal (b₂, o₂) n₂ ∷ [], (vint w64 count ∷ [], tt))))))
       (λ _. qed W (‵ (Shr R-Row κ₁ b₁ o₁ n₁ γ₁ ys₁) ∷ ‵ (Shr u16 κ₂ b₂ o₂ n₂ γ₂ ys₂) ∷ []) ∵ nothing ! $ owned ! usize (Is usize) (uint-makes 𝓤 H A W w64) count (vint w64 count ∷ []) (refl, gcount) $ fjoin ! $ move ! (2 ∷ 0 ∷ []) $ fjoin ! $ move ! (1 ∷ 0 ∷ []) $ fjoin !
       $ owned ! u8 (Is u8) (uint-makes 𝓤 H A W w8) refusal (vint w8 refusal ∷ []) (refl, grefusal) $ fjoin ! $ owned ! R-Bench (Is R-Bench) (makes-Bench 𝓤 H A) bench (vals-Bench bench) gbench $ fjoin ! $ done !)
-      (λ _ _. tt) (λ _ _. factI 𝓤 ((81563 ≤ length ys₀) × ((bench .n ≤ 7) × ((bench .m ≤ 16) × ((bench .rows ≤ length ys₁) × ((bench .rows ≤ 1024) × ((count ≤ length ys₂) × (count ≤ 1024))))))) (emp 𝓤) h)
+      (λ _ _. tt) (λ _ _. factI 𝓤 ((81563 ≤ length ys₀) × ((bench .n ≤ 7) × ((bench .m ≤ 16) × ((bench .rows ≤ length ys₁) × ((bench .rows ≤ 1024) × ((count ≤ length ys₂) × ((count ≤ 1024) × (ShortBench bench × ShortRows (bench .rows) ys₁)))))))) (emp 𝓤) h)
       (λ r zs. Reported bench refusal ys₁ (take count ys₂) ys₀ zs r) (λ _ _ r ws. id⊢ 𝓤 _) (λ _. os)
       (λ v r zs is len φ. subst (λ (u : Val). Seq K W (‵ (Mut u8 κ₀ b₀ o₀ n₀ γ₀ zs) ∷ ‵ (flft κ₀ q₀) ∷ ‵ (Shr R-Row κ₁ b₁ o₁ n₁ γ₁ ys₁) ∷ ‵ (flft κ₁ q₁) ∷ ‵ (Shr u16 κ₂ b₂ o₂ n₂ γ₂ ys₂) ∷ ‵ (flft κ₂ q₂) ∷ Γ) (lands C Λ E d u rest p)) (sym (ap only (is .0))) (k r zs (is .1) len φ))
 

@@ -5,6 +5,7 @@ use mathlib.Core.Bool.{cond}
 use mathlib.Core.List.{List}
 use lib.Dec.{eqb, leb}
 use lib.ListN.{length, take}
+use Rattle.words.specs.Limits.{mostFlight}
 use Rattle.tables.specs.declared.Row.{Row}
 use Rattle.tables.specs.Tables.{laidAt}
 use Rattle.state.specs.State.{laidRows}
@@ -34,4 +35,4 @@ Fronts n out = (n ≤ length out) × (n ≡ length (take n out))
 
 -- the history that a run leaves, over a table of messages of the right length
 unfoldable pub rowsLeft : List ℕ → List Row → List Row
-rowsLeft bytes rows = cond (opens 512 (length rows) bytes) (laidRows (ranFile bytes .state)) rows
+rowsLeft bytes rows = cond (opens mostFlight (length rows) bytes) (laidRows (ranFile bytes .state)) rows

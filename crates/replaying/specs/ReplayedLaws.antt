@@ -5,12 +5,12 @@ use mathlib.Core.Bool.{Bool, true, false, cond, not, true≢false}
 use mathlib.Core.List.{List, _++_}
 use native.Mathlib.Omega.{arith}
 use lib.Dec.{eqb, leb}
-use lib.ListN.{length, take, replicate, length-append, length-take}
-use lib.Seq.{take-append-seam}
+use lib.ListN.{length, getD, take, replicate, length-append, length-take}
+use lib.Seq.{take-append-seam, getD-take}
 use borrow.Author.Tests.{eqb-true, eqb-false, eq-eqb, not-false, le-leb, lt-leb}
 use Rattle.words.specs.declared.Message.{Message}
 use Rattle.tables.specs.declared.Row.{Row}
-use Rattle.tables.specs.Tables.{emptyMessage, laidAt}
+use Rattle.tables.specs.Tables.{emptyMessage, emptyRow, laidAt}
 use Rattle.state.specs.declared.Bench.{Bench}
 use Rattle.state.specs.declared.Stepped.{Stepped}
 use Rattle.state.specs.State.{State, view, laidMessages, laidRows}
@@ -30,6 +30,8 @@ use Rattle.format.specs.FileLaws.{file-opens}
 use Rattle.schedule.specs.Opening.{openingRefusal, opens, ranFile, runReply, runRows}
 use Rattle.schedule.specs.FileLaws.{Played, file-reached}
 use Rattle.text.specs.Printed.{printed, printedRefusal}
+use Rattle.text.specs.Short.{ShortBench, ShortRow, ShortRows}
+use Rattle.text.specs.ShortLaws.{short-rows, short-clocks, short-stores}
 use Rattle.text.specs.Written.{Wrote}
 use Rattle.text.specs.LaidLaws.{laid-length}
 use Rattle.report.specs.Reported.{Reported}
@@ -160,20 +162,30 @@ module _ (bytes : List ℕ) (r : Stepped) (rows : List Row) (s : Stopped bytes r
 
   -- ---- what the order and the report ask
 
+  used-rows : take (r .bench .rows) rows ≡ stopped bytes .rows
+  used-rows = ap (λ (t : State). t .rows) view-is
+
+  short-bench : ShortBench (r .bench)
+  short-bench = subst ShortBench (sym (s .bench)) (short-clocks (stopped bytes) formed, short-stores (stopped bytes) formed)
+
+  used-short : ShortRows (r .bench .rows) rows
+  used-short i l =
+      let there : i < length (stopped bytes .rows) = subst (λ (b : Bench). i < b .rows) (s .bench) l in
+      subst ShortRow (ap (λ (t : List Row). getD t i emptyRow) (sym used-rows) ∙ getD-take (r .bench .rows) rows i emptyRow l) (short-rows (stopped bytes) formed i there)
+
   pub order-asks : (u : ℕ) → u ≡ r .bench .rows → (places : ℕ) → places ≡ 1024 → (length rows ≡ 1024) × ((places ≡ 1024) × ((u ≤ 1024) × (every rowRanged (take u rows) ≡ true)))
   order-asks u e places l =
       subst (λ (k : ℕ). (length rows ≡ 1024) × ((places ≡ 1024) × ((k ≤ 1024) × (every rowRanged (take k rows) ≡ true)))) (sym e) (rows-long, (l, (rows-few, all-ranged)))
 
   pub report-asks : (b : Bench) → b ≡ r .bench → (room : ℕ) → 81563 ≤ room → (count places : ℕ) → count ≤ places → count ≤ 1024
-      → (81563 ≤ room) × ((b .n ≤ 7) × ((b .m ≤ 16) × ((b .rows ≤ length rows) × ((b .rows ≤ 1024) × ((count ≤ places) × (count ≤ 1024))))))
+      → (81563 ≤ room) × ((b .n ≤ 7) × ((b .m ≤ 16) × ((b .rows ≤ length rows) × ((b .rows ≤ 1024) × ((count ≤ places) × ((count ≤ 1024) × (ShortBench b × ShortRows (b .rows) rows)))))))
   report-asks b e room l count places c d =
-      subst (λ (x : Bench). (81563 ≤ room) × ((x .n ≤ 7) × ((x .m ≤ 16) × ((x .rows ≤ length rows) × ((x .rows ≤ 1024) × ((count ≤ places) × (count ≤ 1024))))))) (sym e)
-      (l, (few-processes, (few-registers, (subst (λ (k : ℕ). r .bench .rows ≤ k) (sym rows-long) rows-few, (rows-few, (c, d))))))
+      subst
+      (λ (x : Bench). (81563 ≤ room) × ((x .n ≤ 7) × ((x .m ≤ 16) × ((x .rows ≤ length rows) × ((x .rows ≤ 1024) × ((count ≤ places) × ((count ≤ 1024) × (ShortBench x × ShortRows (x .rows) rows))))))))
+      (sym e)
+      (l, (few-processes, (few-registers, (subst (λ (k : ℕ). r .bench .rows ≤ k) (sym rows-long) rows-few, (rows-few, (c, (d, (short-bench, used-short))))))))
 
   -- ---- the text
-
-  used-rows : take (r .bench .rows) rows ≡ stopped bytes .rows
-  used-rows = ap (λ (t : State). t .rows) view-is
 
   in-flight : r .bench .flight ≤ length (laidMessages (stopped bytes))
   in-flight = subst (λ (b : Bench). b .flight ≤ length (laidMessages (stopped bytes))) (sym (s .bench)) (omega (arith, length-append (stopped bytes .flight) (replicate (512 - length (stopped bytes .flight)) emptyMessage)))

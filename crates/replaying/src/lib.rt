@@ -13,12 +13,10 @@ use tables::Row;
 use tables::empty_message;
 use tables::empty_row;
 use text::lines::put_refusal;
+use words::limits::MESSAGE_PLACES;
+use words::limits::ROW_PLACES;
 
 mod parts;
-
-const MESSAGES: usize = 512;
-
-const ROWS: usize = 1024;
 
 // No text is longer.
 pub const LONGEST_TEXT: usize = 81563;
@@ -27,7 +25,7 @@ pub const LONGEST_TEXT: usize = 81563;
 pub fn run_history(rows: &mut [Row], bytes: &[u8]) -> Stepped
     ensures { λ r. ⌜ (r ≡ runReply 512 (length (now (rows .entry))) (now (bytes .entry))) × (now (rows .exit) ≡ rowsLeft (now (bytes .entry)) (now (rows .entry))) ⌝ }
 {
-    let mut messages = [empty_message(); MESSAGES];
+    let mut messages = [empty_message(); MESSAGE_PLACES];
     run(&mut messages, &mut *rows, bytes)
 }
 
@@ -36,7 +34,7 @@ fn replay_into(out: &mut [u8], listing: &mut [u16], bytes: &[u8]) -> usize
     requires { ⌜ (81563 ≤ length (now out)) × (length (now listing) ≡ 1024) ⌝ }
     ensures { λ r. ⌜ Wrote 0 (replayed (now (bytes .entry))) 81563 (now (out .entry)) (now (out .exit)) r ⌝ }
 {
-    let mut rows = [empty_row(); ROWS];
+    let mut rows = [empty_row(); ROW_PLACES];
     let ran = run_history(&mut rows, bytes);
     let refusal = parts::refusal_of(ran);
     if parts::is_begun(ran) {
@@ -56,6 +54,6 @@ pub fn replay(bytes: &[u8], out: &mut [u8]) -> usize
     if out.len() < LONGEST_TEXT {
         return 0;
     }
-    let mut listing = [0u16; ROWS];
+    let mut listing = [0u16; ROW_PLACES];
     replay_into(&mut *out, &mut listing, bytes)
 }

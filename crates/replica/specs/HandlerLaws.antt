@@ -53,6 +53,7 @@ use Rattle.replica.specs.Handlers.{
   crashRule,
   crashed,
 }
+use Rattle.words.specs.Limits.{mostRows, mostTime, mostRid}
 use Rattle.words.specs.Ranges.{within, pairFits, senderFits, repliersFit}
 use Rattle.replica.specs.Ranges.{replicaInside}
 use Rattle.words.specs.RangeLaws.{and-left, and-right, and-unless}
@@ -116,7 +117,7 @@ query-inside r from time rid x is e = request-inside r from time rid x (down-ins
 pub update-inside : (r : Replica) (from : Pid) (time : Time) (rid : Rid) (x : ℕ) (pair : Pair) → {m : ℕ} → m ≡ updateRefusal r from time rid x pair → m ≡ 0 → RequestInside r from time rid x
 unfolding updateRefusal
 update-inside r from time rid x pair is e =
-    request-inside r from time rid x (and-left (requestFits r from time rid x) (pairFits 12000 7 pair) (down-inside _ _ _ (sym is ∙ e)))
+    request-inside r from time rid x (and-left (requestFits r from time rid x) (pairFits mostTime 7 pair) (down-inside _ _ _ (sym is ∙ e)))
 
 abbrev pub ReplyInside : Replica → ℕ → Pid → Time → Rid → Type 0
 ReplyInside r n from time rid = (replicaInside n r ≡ true) × (senderFits n from time rid ≡ true)
@@ -130,7 +131,7 @@ pub response-inside : (r : Replica) (n x : ℕ) (from : Pid) (time : Time) (rid 
 unfolding responseRefusal
 response-inside r n x from time rid pair is e =
     reply-inside r n from time rid
-    (and-left (replyFits r n from time rid) (within x 16) (and-left (replyFits r n from time rid && within x 16) (pairFits 12000 7 pair) (down-inside _ _ _ (sym is ∙ e))))
+    (and-left (replyFits r n from time rid) (within x 16) (and-left (replyFits r n from time rid && within x 16) (pairFits mostTime 7 pair) (down-inside _ _ _ (sym is ∙ e))))
 
 pub ack-inside : (r : Replica) (n : ℕ) (from : Pid) (time : Time) (rid : Rid) → {m : ℕ} → m ≡ ackRefusal r n from time rid → m ≡ 0 → ReplyInside r n from time rid
 unfolding ackRefusal
@@ -146,11 +147,11 @@ down-accepts : (number : ℕ) (fits crashed : Bool) → fits ≡ true → crashe
 unfolding downRefusal
 down-accepts number fits crashed e f = simp (e, f)
 
-pub read-is-rule : (r : Replica) (x row : ℕ) → (replicaInside 7 r && within x 16 && within row 1024) ≡ true → r .crashed ≡ false → isIdle (r .phase) ≡ true → readBegun r x row ≡ readRule r x row
+pub read-is-rule : (r : Replica) (x row : ℕ) → (replicaInside 7 r && within x 16 && within row mostRows) ≡ true → r .crashed ≡ false → isIdle (r .phase) ≡ true → readBegun r x row ≡ readRule r x row
 unfolding readBegun readRefusal
 read-is-rule r x row e f g = sym (rule-by _ _ r _ refl (begin-accepts _ _ _ e f g))
 
-pub write-is-rule : (r : Replica) (me : Pid) (x : ℕ) (value : ℤ) (row : ℕ) → (replicaInside 7 r && within (me .0) 7 && within x 16 && within row 1024) ≡ true → r .crashed ≡ false → isIdle (r .phase) ≡ true → writeBegun r me x value row ≡ writeRule r me x value row
+pub write-is-rule : (r : Replica) (me : Pid) (x : ℕ) (value : ℤ) (row : ℕ) → (replicaInside 7 r && within (me .0) 7 && within x 16 && within row mostRows) ≡ true → r .crashed ≡ false → isIdle (r .phase) ≡ true → writeBegun r me x value row ≡ writeRule r me x value row
 unfolding writeBegun writeRefusal
 write-is-rule r me x value row e f g = sym (rule-by _ _ r _ refl (begin-accepts _ _ _ e f g))
 
@@ -158,11 +159,11 @@ pub query-is-rule : (r : Replica) (from : Pid) (time : Time) (rid : Rid) (x : �
 unfolding queryReceived queryRefusal
 query-is-rule r from time rid x e f = sym (rule-by _ _ r _ refl (down-accepts 13 _ _ e f))
 
-pub update-is-rule : (r : Replica) (from : Pid) (time : Time) (rid : Rid) (x : ℕ) (pair : Pair) → (requestFits r from time rid x && pairFits 12000 7 pair) ≡ true → r .crashed ≡ false → updateReceived r from time rid x pair ≡ updateRule r from time rid x pair
+pub update-is-rule : (r : Replica) (from : Pid) (time : Time) (rid : Rid) (x : ℕ) (pair : Pair) → (requestFits r from time rid x && pairFits mostTime 7 pair) ≡ true → r .crashed ≡ false → updateReceived r from time rid x pair ≡ updateRule r from time rid x pair
 unfolding updateReceived updateRefusal
 update-is-rule r from time rid x pair e f = sym (rule-by _ _ r _ refl (down-accepts 13 _ _ e f))
 
-pub response-is-rule : (r : Replica) (n x : ℕ) (from : Pid) (time : Time) (rid : Rid) (pair : Pair) → (replyFits r n from time rid && within x 16 && pairFits 12000 7 pair) ≡ true → r .crashed ≡ false → responseReceived r n x from time rid pair ≡ responseRule r n x from time rid pair
+pub response-is-rule : (r : Replica) (n x : ℕ) (from : Pid) (time : Time) (rid : Rid) (pair : Pair) → (replyFits r n from time rid && within x 16 && pairFits mostTime 7 pair) ≡ true → r .crashed ≡ false → responseReceived r n x from time rid pair ≡ responseRule r n x from time rid pair
 unfolding responseReceived responseRefusal
 response-is-rule r n x from time rid pair e f = sym (rule-by _ _ r _ refl (down-accepts 13 _ _ e f))
 
@@ -182,9 +183,9 @@ Stranger r n from = (within (from .0) n ≡ false) ⊎ (repliersFit n (r .replie
 module _ (r : Replica) (n : ℕ) (from : Pid) (time : Time) (rid : Rid) (stranger : Stranger r n from) where
   reply-outside : replyFits r n from time rid ≡ false
   reply-outside =
-      let a : Bool = leb (r .clock .0) 12000 && leb (r .rid .0) 24000 in
+      let a : Bool = leb (r .clock .0) mostTime && leb (r .rid .0) mostRid in
       elim stranger [
-        | inl e ↦ simp (and-unless (within (from .0) n) (leb (time .0) 12000) e, and-false)
+        | inl e ↦ simp (and-unless (within (from .0) n) (leb (time .0) mostTime) e, and-false)
         | inr e ↦ simp (e, and-false a)
       ]
 
@@ -204,7 +205,7 @@ onlyAcked r from time rid =
     let clock = after (r .clock .0) (time .0) in
     accepted (became r clock (r .rid .0) (r .phase) (r .repliers) (r .pairs)) (replyOf from clock (rid .0) Ack) Pending
 
-module _ (r : Replica) (from : Pid) (time : Time) (rid : Rid) (x : ℕ) (pair : Pair) (fits : (requestFits r from time rid x && pairFits 12000 7 pair) ≡ true) (up : r .crashed ≡ false) where
+module _ (r : Replica) (from : Pid) (time : Time) (rid : Rid) (x : ℕ) (pair : Pair) (fits : (requestFits r from time rid x && pairFits mostTime 7 pair) ≡ true) (up : r .crashed ≡ false) where
   pub old-update : AtMost (pair .stamp) (stored r x .stamp) → updateReceived r from time rid x pair ≡ onlyAcked r from time rid
   unfolding updateRule
   old-update old =

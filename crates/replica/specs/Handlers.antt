@@ -1,5 +1,5 @@
 -- The handlers of one process: document 01, "Events", sentence by sentence. Each rule is what document 000's Algorithm 1 does for the event;
--- each handler is the rule, guarded by document 01's ranges and refusals.
+-- each handler is the rule, guarded by its ranges and document 01's refusals.
 use Prim.Native.Nat.{ℕ, _+_, _-_}
 use mathlib.Core.Bool.{Bool, true, false, cond, not, _&&_}
 use mathlib.Core.List.{List}
@@ -22,10 +22,15 @@ use Rattle.replica.specs.declared.Sends.the-variants.{Nothing, Reply, Br
 use Rattle.replica.specs.declared.Ended.{Ended}
 use Rattle.replica.specs.declared.Ended.the-variants.{Pending, At}
 use Rattle.replica.specs.declared.Answer.{Answer}
-use Rattle.replica.specs.declared.Counts.{Counts}
-use Rattle.replica.specs.declared.Counts.the-variants.{Not, For}
+use Rattle.replica.specs.declared.Gathered.{Gathered}
+use Rattle.replica.specs.declared.ResponseCounts.{ResponseCounts}
+use Rattle.replica.specs.declared.ResponseCounts.the-variants.{Not, For}
+use Rattle.replica.specs.declared.AckCounts.{AckCounts}
+use Rattle.replica.specs.declared.AckCounts.the-variants.{Not as NoAck, For as AckFor}
 use Rattle.replica.specs.Clock.{after}
+use Rattle.replica.specs.Gathering.{nothingGathered, gatheredWith}
 use Rattle.words.specs.Quorum.{joined, counted, majorityOf}
+use Rattle.words.specs.Limits.{mostRows, mostTime}
 use Rattle.words.specs.Ranges.{within, pairFits, senderFits}
 use Rattle.replica.specs.Ranges.{replicaInside}
 use Rattle.words.specs.Stamps.{stampOf, startPair, newer}
@@ -71,7 +76,7 @@ unfoldable pub readRule : Replica → ℕ → ℕ → Answer
 readRule r x row =
     let clock = r .clock .0 + 1 in
     let rid = r .rid .0 + 1 in
-    accepted (became r clock rid (Querying row startPair) (r .repliers) (r .pairs)) (broadcastOf clock rid (Query x)) Pending
+    accepted (became r clock rid (Querying row nothingGathered) (r .repliers) (r .pairs)) (broadcastOf clock rid (Query x)) Pending
 
 -- Write by p of v to x: clock + 1; stamp = (clock, p); request number + 1; broadcast update. The local copy does not change
 unfoldable pub writeRule : Replica → Pid → ℕ → ℤ → ℕ → Answer
@@ -98,15 +103,15 @@ updateRule r from time rid x pair =
 
 -- A response that counts. The one that makes a majority: the greatest pair counted is chosen, the set is emptied, request number + 1, update
 -- with that pair is broadcast
-unfoldable pub responseCounted : Replica → ℕ → ℕ → Pid → Time → ℕ → Pair → Answer
-responseCounted r n x from time row best =
+unfoldable pub responseCounted : Replica → ℕ → ℕ → Pid → Time → ℕ → Gathered → Answer
+responseCounted r n x from time row gathered =
     let clock = after (r .clock .0) (time .0) in
     let rid = r .rid .0 + 1 in
     let repliers = joined (r .repliers) (from .0) in
     cond
     (leb (majorityOf n) (counted repliers))
-    (accepted (became r clock rid (Updating row best) 0 (r .pairs)) (broadcastOf clock rid (Update x best)) Pending)
-    (accepted (became r clock (r .rid .0) (Querying row best) repliers (r .pairs)) Nothing Pending)
+    (accepted (became r clock rid (Updating row (gathered .best)) 0 (r .pairs)) (broadcastOf clock rid (Update x (gathered .best))) Pending)
+    (accepted (became r clock (r .rid .0) (Querying row gathered) repliers (r .pairs)) Nothing Pending)
 
 -- An ack that counts. The one that makes a majority: the set is emptied, request number + 1, the operation completes at this clock
 unfoldable pub ackCounted : Replica → ℕ → Pid → Time → ℕ → Pair → Answer
@@ -120,31 +125,31 @@ ackCounted r n from time row sent =
     (accepted (became r clock (r .rid .0) (Updating row sent) repliers (r .pairs)) Nothing Pending)
 
 -- A response counts only while the replica is querying, and only with the present request number
-abbrev pub responseCounts : Phase → Rid → Rid → Counts
+abbrev pub responseCounts : Phase → Rid → Rid → ResponseCounts
 responseCounts Idle own rid = Not
-responseCounts (Querying row best) own rid = cond (eqb (rid .0) (own .0)) (For row best) Not
+responseCounts (Querying row gathered) own rid = cond (eqb (rid .0) (own .0)) (For row gathered) Not
 responseCounts (Updating row sent) own rid = Not
 
 -- an ack only while updating, and only with the present request number
-abbrev pub ackCounts : Phase → Rid → Rid → Counts
-ackCounts Idle own rid = Not
-ackCounts (Querying row best) own rid = Not
-ackCounts (Updating row sent) own rid = cond (eqb (rid .0) (own .0)) (For row sent) Not
+abbrev pub ackCounts : Phase → Rid → Rid → AckCounts
+ackCounts Idle own rid = NoAck
+ackCounts (Querying row gathered) own rid = NoAck
+ackCounts (Updating row sent) own rid = cond (eqb (rid .0) (own .0)) (AckFor row sent) NoAck
 
 -- Otherwise the message is taken off and nothing else changes, the clock included
 abbrev pub discarded : Replica → Answer
 discarded r = accepted r Nothing Pending
 
-abbrev pub responseTaken : Counts → Replica → ℕ → ℕ → Pid → Time → Pair → Answer
+abbrev pub responseTaken : ResponseCounts → Replica → ℕ → ℕ → Pid → Time → Pair → Answer
 responseTaken Not r n x from time pair = discarded r
-responseTaken (For row best) r n x from time pair = responseCounted r n x from time row (newer best pair)
+responseTaken (For row gathered) r n x from time pair = responseCounted r n x from time row (gatheredWith gathered pair)
 
 unfoldable pub responseRule : Replica → ℕ → ℕ → Pid → Time → Rid → Pair → Answer
 responseRule r n x from time rid pair = responseTaken (responseCounts (r .phase) (r .rid) rid) r n x from time pair
 
-abbrev pub ackTaken : Counts → Replica → ℕ → Pid → Time → Answer
-ackTaken Not r n from time = discarded r
-ackTaken (For row sent) r n from time = ackCounted r n from time row sent
+abbrev pub ackTaken : AckCounts → Replica → ℕ → Pid → Time → Answer
+ackTaken NoAck r n from time = discarded r
+ackTaken (AckFor row sent) r n from time = ackCounted r n from time row sent
 
 unfoldable pub ackRule : Replica → ℕ → Pid → Time → Rid → Answer
 ackRule r n from time rid = ackTaken (ackCounts (r .phase) (r .rid) rid) r n from time
@@ -172,7 +177,7 @@ unlessRefused number r rule = cond (eqb number 0) rule (refused number r)
 
 abbrev pub isIdle : Phase → Bool
 isIdle Idle = true
-isIdle (Querying row best) = false
+isIdle (Querying row gathered) = false
 isIdle (Updating row sent) = false
 
 unfoldable pub beginRefusal : Bool → Bool → Bool → ℕ
@@ -183,20 +188,20 @@ downRefusal number fits crashed = cond fits (cond crashed number 0) 18
 
 -- a read is begun inside the ranges, by a replica that is up and idle
 unfoldable pub readRefusal : Replica → ℕ → ℕ → ℕ
-readRefusal r x row = beginRefusal (replicaInside 7 r && within x 16 && within row 1024) (r .crashed) (isIdle (r .phase))
+readRefusal r x row = beginRefusal (replicaInside 7 r && within x 16 && within row mostRows) (r .crashed) (isIdle (r .phase))
 
 unfoldable pub readBegun : Replica → ℕ → ℕ → Answer
 readBegun r x row = unlessRefused (readRefusal r x row) r (readRule r x row)
 
 unfoldable pub writeRefusal : Replica → Pid → ℕ → ℕ → ℕ
-writeRefusal r me x row = beginRefusal (replicaInside 7 r && within (me .0) 7 && within x 16 && within row 1024) (r .crashed) (isIdle (r .phase))
+writeRefusal r me x row = beginRefusal (replicaInside 7 r && within (me .0) 7 && within x 16 && within row mostRows) (r .crashed) (isIdle (r .phase))
 
 unfoldable pub writeBegun : Replica → Pid → ℕ → ℤ → ℕ → Answer
 writeBegun r me x value row = unlessRefused (writeRefusal r me x row) r (writeRule r me x value row)
 
 -- the pair stored for x is judged too: it is read
 abbrev pub storedFits : Replica → ℕ → Bool
-storedFits r x = within x 16 && pairFits 12000 7 (stored r x)
+storedFits r x = within x 16 && pairFits mostTime 7 (stored r x)
 
 abbrev pub requestFits : Replica → Pid → Time → Rid → ℕ → Bool
 requestFits r from time rid x = replicaInside 7 r && senderFits 7 from time rid && storedFits r x
@@ -208,7 +213,7 @@ unfoldable pub queryReceived : Replica → Pid → Time → Rid → ℕ → Answ
 queryReceived r from time rid x = unlessRefused (queryRefusal r from time rid x) r (queryRule r from time rid x)
 
 unfoldable pub updateRefusal : Replica → Pid → Time → Rid → ℕ → Pair → ℕ
-updateRefusal r from time rid x pair = downRefusal 13 (requestFits r from time rid x && pairFits 12000 7 pair) (r .crashed)
+updateRefusal r from time rid x pair = downRefusal 13 (requestFits r from time rid x && pairFits mostTime 7 pair) (r .crashed)
 
 unfoldable pub updateReceived : Replica → Pid → Time → Rid → ℕ → Pair → Answer
 updateReceived r from time rid x pair = unlessRefused (updateRefusal r from time rid x pair) r (updateRule r from time rid x pair)
@@ -218,7 +223,7 @@ abbrev pub replyFits : Replica → ℕ → Pid → Time → Rid → Bool
 replyFits r n from time rid = replicaInside n r && senderFits n from time rid && within n 7
 
 unfoldable pub responseRefusal : Replica → ℕ → ℕ → Pid → Time → Rid → Pair → ℕ
-responseRefusal r n x from time rid pair = downRefusal 13 (replyFits r n from time rid && within x 16 && pairFits 12000 7 pair) (r .crashed)
+responseRefusal r n x from time rid pair = downRefusal 13 (replyFits r n from time rid && within x 16 && pairFits mostTime 7 pair) (r .crashed)
 
 unfoldable pub responseReceived : Replica → ℕ → ℕ → Pid → Time → Rid → Pair → Answer
 responseReceived r n x from time rid pair =

@@ -1,6 +1,7 @@
 -- What a reader has to believe
 pub mod Clock
 pub mod Ranges
+pub mod Gathering
 pub mod Handlers
 pub mod Numbers
 -- Laws

@@ -29,5 +29,5 @@ chosenBy (At time pair) = pair
 -- the row that a waiting replica points to, 0 while idle
 abbrev pub pointed : Phase → ℕ
 pointed Idle = 0
-pointed (Querying row best) = row
+pointed (Querying row gathered) = row
 pointed (Updating row sent) = row

@@ -1,7 +1,8 @@
 // The clock, and its rule on receiving: larger of own and sender's time, plus 1. All of it takes a `Time`, so that no request number is ever
 // compared with a clock. The handlers call `after_receiving`.
 ghost use mathlib.Core.Path.{_≡_};
-ghost use Prim.Native.Nat.{_<_};
+ghost use Prim.Native.Nat.{_≤_};
+ghost use Rattle.words.specs.Limits.{mostTime};
 ghost use Rattle.replica.specs.Clock.{afterTime, clockAfter};
 use words::Time;
 
@@ -11,7 +12,7 @@ pub struct Clock {
 
 // The rule, of two times.
 fn later(own: Time, sent: Time) -> Time
-    requires { ⌜ (own .0 < 65535) × (sent .0 < 65535) ⌝ }
+    requires { ⌜ (own .0 ≤ mostTime) × (sent .0 ≤ mostTime) ⌝ }
     ensures { λ r. ⌜ r ≡ afterTime own sent ⌝ }
 {
     if own.0 < sent.0 {
@@ -23,7 +24,7 @@ fn later(own: Time, sent: Time) -> Time
 
 // A clock that is lent goes by the rule.
 pub fn receive(clock: &mut Clock, time: Time)
-    requires { ⌜ (now clock .time .0 < 65535) × (time .0 < 65535) ⌝ }
+    requires { ⌜ (now clock .time .0 ≤ mostTime) × (time .0 ≤ mostTime) ⌝ }
     ensures { λ _. ⌜ now (clock .exit) ≡ clockAfter (now (clock .entry)) time ⌝ }
 {
     let own = clock.time;
@@ -32,7 +33,7 @@ pub fn receive(clock: &mut Clock, time: Time)
 
 // The same for callers that have no clock to lend: a clock's time and a message's in, the clock's next time out.
 pub fn after_receiving(own: Time, sent: Time) -> Time
-    requires { ⌜ (own .0 < 65535) × (sent .0 < 65535) ⌝ }
+    requires { ⌜ (own .0 ≤ mostTime) × (sent .0 ≤ mostTime) ⌝ }
     ensures { λ r. ⌜ r ≡ afterTime own sent ⌝ }
 {
     let mut clock = Clock { time: own };

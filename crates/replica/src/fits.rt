@@ -1,16 +1,21 @@
-// What every handler works with, inside document 01's ranges.
+// What every handler works with, inside the ranges of one replica.
 ghost use mathlib.Core.Path.{_≡_};
 ghost use Rattle.replica.specs.Ranges.{waitFits, phaseInside, replicaInside};
 use crate::Phase;
 use crate::Replica;
 use words::Pair;
-use words::ranges;
+use words::limits::MOST_RID;
+use words::limits::MOST_TIME;
+use words::limits::PROCESSES;
+use words::ranges::pair_fits;
+use words::ranges::repliers_fit;
+use words::ranges::row_fits;
 
 // A row of the history, and the pair that is kept while it waits.
 fn wait_fits(row: u16, pair: Pair) -> bool
     ensures { λ r. ⌜ r ≡ waitFits row pair ⌝ }
 {
-    ranges::row_fits(row) & ranges::pair_fits(pair, ranges::EVENTS, ranges::PROCESSES)
+    row_fits(row) & pair_fits(pair, MOST_TIME, PROCESSES)
 }
 
 fn phase_fits(phase: Phase) -> bool
@@ -18,7 +23,7 @@ fn phase_fits(phase: Phase) -> bool
 {
     match phase {
         Phase::Idle => true,
-        Phase::Querying(row, best) => wait_fits(row, best),
+        Phase::Querying(row, gathered) => wait_fits(row, gathered.best),
         Phase::Updating(row, sent) => wait_fits(row, sent),
     }
 }
@@ -28,8 +33,8 @@ pub fn replica_fits(n: u8, r: Replica) -> bool
     ensures { λ b. ⌜ b ≡ replicaInside n r ⌝ }
 {
     let phase = r.phase;
-    (r.clock.0 <= ranges::EVENTS)
-        & (r.rid.0 <= ranges::REQUESTS)
-        & ranges::repliers_fit(n, r.repliers)
+    (r.clock.0 <= MOST_TIME)
+        & (r.rid.0 <= MOST_RID)
+        & repliers_fit(n, r.repliers)
         & phase_fits(phase)
 }

@@ -1,17 +1,21 @@
-// The handlers of one process. Each hands the replica back changed, with what it sends. None has a `requires`: what is outside document 01's
+// The handlers of one process. Each hands the replica back changed, with what it sends. None has a `requires`: what is outside its
 // ranges is answered by 18, and the replica comes back as it was.
 ghost use mathlib.Core.Path.{_≡_};
 ghost use Prim.Native.Nat.{_≤_};
+ghost use Rattle.words.specs.Limits.{mostTime, mostRid};
 ghost use Rattle.replica.specs.Handlers.{readBegun, writeBegun, queryReceived, updateReceived, responseReceived, ackReceived};
 ghost use Rattle.replica.specs.Handlers.{crashed, responseCounted, ackCounted};
+use crate::AckCounts;
 use crate::Answer;
-use crate::Counts;
 use crate::Ended;
+use crate::Gathered;
 use crate::Phase;
 use crate::Replica;
+use crate::ResponseCounts;
 use crate::Sends;
 use crate::clock::after_receiving;
 use crate::counting;
+use crate::gathering;
 use crate::refusals;
 use crate::sending;
 use crate::store;
@@ -34,8 +38,14 @@ impl Replica {
         }
         let clock = Time(self.clock.0 + 1);
         let rid = Rid(self.rid.0 + 1);
-        let start = store::start_pair();
-        self = store::move_to(self, clock, rid, Phase::Querying(row, start), self.repliers);
+        let gathered = gathering::nothing();
+        self = store::move_to(
+            self,
+            clock,
+            rid,
+            Phase::Querying(row, gathered),
+            self.repliers,
+        );
         sending::accept(self, sending::broadcast(clock, rid, Body::Query(register)))
     }
 
@@ -95,7 +105,7 @@ impl Replica {
         sending::accept(self, sending::reply(from, clock, rid, Body::Ack))
     }
 
-    // A response that counts, while the pair `best` is the greatest with it.
+    // A response that counts, and what is gathered with it.
     fn response_counted(
         mut self,
         n: u8,
@@ -103,15 +113,16 @@ impl Replica {
         from: Pid,
         time: Time,
         row: u16,
-        best: Pair,
+        gathered: Gathered,
     ) -> Answer
-        requires { ⌜ (self .clock .0 ≤ 12000) × (time .0 ≤ 12000) × (self .rid .0 ≤ 24000) ⌝ }
-        ensures { λ r. ⌜ r ≡ responseCounted self n register from time row best ⌝ }
+        requires { ⌜ (self .clock .0 ≤ mostTime) × (time .0 ≤ mostTime) × (self .rid .0 ≤ mostRid) ⌝ }
+        ensures { λ r. ⌜ r ≡ responseCounted self n register from time row gathered ⌝ }
     {
         let clock = after_receiving(self.clock, time);
         let repliers = quorum::with(self.repliers, from.0);
         if quorum::is_majority(repliers, n) {
             let rid = Rid(self.rid.0 + 1);
+            let best = gathered.best;
             self = store::move_to(self, clock, rid, Phase::Updating(row, best), 0);
             sending::accept(
                 self,
@@ -119,7 +130,7 @@ impl Replica {
             )
         } else {
             let rid = self.rid;
-            self = store::move_to(self, clock, rid, Phase::Querying(row, best), repliers);
+            self = store::move_to(self, clock, rid, Phase::Querying(row, gathered), repliers);
             sending::accept(self, Sends::Nothing)
         }
     }
@@ -141,15 +152,22 @@ impl Replica {
         }
         let phase = self.phase;
         let own = self.rid;
-        let Counts::For(row, best) = counting::counts_response(phase, own, rid) else {
+        let ResponseCounts::For(row, gathered) = counting::counts_response(phase, own, rid) else {
             return sending::accept(self, Sends::Nothing);
         };
-        self.response_counted(n, register, from, time, row, stamps::newer_of(best, pair))
+        self.response_counted(
+            n,
+            register,
+            from,
+            time,
+            row,
+            gathering::with_response(gathered, pair),
+        )
     }
 
     // An ack that counts, of the pair `sent`.
     fn ack_counted(mut self, n: u8, from: Pid, time: Time, row: u16, sent: Pair) -> Answer
-        requires { ⌜ (self .clock .0 ≤ 12000) × (time .0 ≤ 12000) × (self .rid .0 ≤ 24000) ⌝ }
+        requires { ⌜ (self .clock .0 ≤ mostTime) × (time .0 ≤ mostTime) × (self .rid .0 ≤ mostRid) ⌝ }
         ensures { λ r. ⌜ r ≡ ackCounted self n from time row sent ⌝ }
     {
         let clock = after_receiving(self.clock, time);
@@ -179,7 +197,7 @@ impl Replica {
         }
         let phase = self.phase;
         let own = self.rid;
-        let Counts::For(row, sent) = counting::counts_ack(phase, own, rid) else {
+        let AckCounts::For(row, sent) = counting::counts_ack(phase, own, rid) else {
             return sending::accept(self, Sends::Nothing);
         };
         self.ack_counted(n, from, time, row, sent)

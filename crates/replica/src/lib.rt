@@ -9,17 +9,23 @@ use words::Time;
 mod clock;
 mod counting;
 mod fits;
+mod gathering;
 pub mod handlers;
 pub mod phases;
 mod refusals;
 mod sending;
 mod store;
 
-// What a replica does: nothing; or it waits for replies on behalf of a row of the history. While querying it keeps the greatest pair
-// counted so far, while updating the pair that it sent.
+// What a query has gathered from the responses counted so far: the greatest pair.
+pub struct Gathered {
+    pub best: Pair,
+}
+
+// What a replica does: nothing; or it waits for replies on behalf of a row of the history. While querying it keeps what it has gathered,
+// while updating the pair that it sent.
 pub enum Phase {
     Idle,
-    Querying(u16, Pair),
+    Querying(u16, Gathered),
     Updating(u16, Pair),
 }
 
@@ -61,8 +67,14 @@ pub struct Answer {
     pub ended: Ended,
 }
 
-// Whether a reply counts: not, or for this row, beside the pair that is kept for it.
-pub enum Counts {
+// Whether a response counts: not, or for this row, beside what its query has gathered.
+pub enum ResponseCounts {
+    Not,
+    For(u16, Gathered),
+}
+
+// Whether an ack counts: not, or for this row, of the pair that was sent.
+pub enum AckCounts {
     Not,
     For(u16, Pair),
 }

@@ -1,4 +1,4 @@
-// Why a handler refuses: 18 outside document 01's ranges, then 10, 11 or 13. 0 is accepted.
+// Why a handler refuses: 18 outside the ranges, then 10, 11 or 13. 0 is accepted.
 ghost use mathlib.Core.Path.{_≡_};
 ghost use Rattle.replica.specs.Handlers.{
   isIdle,
@@ -24,21 +24,17 @@ use words::Pair;
 use words::Pid;
 use words::Rid;
 use words::Time;
-use words::ranges::EVENTS;
-use words::ranges::PROCESSES;
-use words::ranges::REGISTERS;
+use words::limits::MOST_TIME;
+use words::limits::PROCESSES;
+use words::limits::REGISTERS;
 use words::ranges::is_within;
 use words::ranges::pair_fits;
 use words::ranges::row_fits;
 use words::ranges::sender_fits;
-
-const CRASHED: u8 = 10;
-
-const PENDING: u8 = 11;
-
-const RECIPIENT_CRASHED: u8 = 13;
-
-const OUT_OF_RANGE: u8 = 18;
+use words::refusal::CRASHED;
+use words::refusal::NOT_FORMED;
+use words::refusal::PENDING;
+use words::refusal::RECIPIENT_CRASHED;
 
 // Why an operation is not begun.
 fn begin_refusal(fits: bool, crashed: bool, idle: bool) -> u8
@@ -53,7 +49,7 @@ fn begin_refusal(fits: bool, crashed: bool, idle: bool) -> u8
             PENDING
         }
     } else {
-        OUT_OF_RANGE
+        NOT_FORMED
     }
 }
 
@@ -64,7 +60,7 @@ fn down_refusal(number: u8, fits: bool, crashed: bool) -> u8
     if fits {
         if crashed { number } else { 0 }
     } else {
-        OUT_OF_RANGE
+        NOT_FORMED
     }
 }
 
@@ -92,7 +88,7 @@ fn stored_fits(r: Replica, register: u8) -> bool
     ensures { λ b. ⌜ b ≡ storedFits r register ⌝ }
 {
     if is_within(register, REGISTERS) {
-        pair_fits(store::pair_of(r, register), EVENTS, PROCESSES)
+        pair_fits(store::pair_of(r, register), MOST_TIME, PROCESSES)
     } else {
         false
     }
@@ -117,7 +113,7 @@ pub fn query_refusal(r: Replica, from: Pid, time: Time, rid: Rid, register: u8) 
 pub fn update_refusal(r: Replica, from: Pid, time: Time, rid: Rid, register: u8, pair: Pair) -> u8
     ensures { λ n. ⌜ n ≡ updateRefusal r from time rid register pair ⌝ }
 {
-    let fits = request_fits(r, from, time, rid, register) & pair_fits(pair, EVENTS, PROCESSES);
+    let fits = request_fits(r, from, time, rid, register) & pair_fits(pair, MOST_TIME, PROCESSES);
     down_refusal(RECIPIENT_CRASHED, fits, r.crashed)
 }
 
@@ -141,7 +137,7 @@ pub fn response_refusal(
 {
     let fits = reply_fits(r, n, from, time, rid)
         & is_within(register, REGISTERS)
-        & pair_fits(pair, EVENTS, PROCESSES);
+        & pair_fits(pair, MOST_TIME, PROCESSES);
     down_refusal(RECIPIENT_CRASHED, fits, r.crashed)
 }
 

@@ -88,8 +88,8 @@ unfolding queryRule updateRule
 accepts-all (replies y) = refl
 accepts-all (stores y pair) = refl
 accepts-all (discards body) = refl
-accepts-all (asks pair row best f present few) = refl
-accepts-all (chooses pair row best f present many) = refl
+accepts-all (asks pair row gathered f present few) = refl
+accepts-all (chooses pair row gathered f present many) = refl
 accepts-all (waits row sent f present few) = refl
 accepts-all (ends row sent f present many) = refl
 

@@ -11,15 +11,17 @@ use Rattle.words.specs.declared.Pair.{Pair}
 use Rattle.words.specs.declared.Pid.{Pid}
 use Rattle.words.specs.declared.Time.{Time}
 use Rattle.words.specs.Quorum.{joined, counted, majorityOf}
-use Rattle.words.specs.Stamps.{newer}
 use Rattle.replica.specs.declared.Answer.{Answer}
-use Rattle.replica.specs.declared.Counts.the-variants.{Not, For}
+use Rattle.replica.specs.declared.AckCounts.the-variants.{Not as NoAck, For as AckFor}
 use Rattle.replica.specs.declared.Ended.the-variants.{Pending, At}
+use Rattle.replica.specs.declared.Gathered.{Gathered}
 use Rattle.replica.specs.declared.Phase.{Phase}
 use Rattle.replica.specs.declared.Phase.the-variants.{Idle, Querying, Updating}
 use Rattle.replica.specs.declared.Replica.{Replica}
+use Rattle.replica.specs.declared.ResponseCounts.the-variants.{Not, For}
 use Rattle.replica.specs.declared.Sends.the-variants.{Nothing}
 use Rattle.replica.specs.Clock.{after}
+use Rattle.replica.specs.Gathering.{gatheredWith}
 use Rattle.replica.specs.Handlers.{became, accepted, discarded, broadcastOf, queryRule, updateRule}
 use Rattle.replica.specs.Handlers.{responseCounts, responseCounted, responseTaken, responseRule, ackCounts, ackCounted, ackTaken, ackRule}
 use Rattle.state.specs.State.{State}
@@ -44,18 +46,18 @@ ended r time sent =
     accepted (became r clock (r .rid .0 + 1) Idle 0 (r .pairs)) Nothing (At (record { 0 = clock }) sent)
 
 -- the sender is counted
-abbrev pub asking : Replica → Pid → Time → ℕ → Pair → Answer
-asking r from time row best =
-    accepted (became r (after (r .clock .0) (time .0)) (r .rid .0) (Querying row best) (joined (r .repliers) (from .0)) (r .pairs)) Nothing Pending
+abbrev pub asking : Replica → Pid → Time → ℕ → Gathered → Answer
+asking r from time row gathered =
+    accepted (became r (after (r .clock .0) (time .0)) (r .rid .0) (Querying row gathered) (joined (r .repliers) (from .0)) (r .pairs)) Nothing Pending
 
 abbrev pub waiting : Replica → Pid → Time → ℕ → Pair → Answer
 waiting r from time row sent =
     accepted (became r (after (r .clock .0) (time .0)) (r .rid .0) (Updating row sent) (joined (r .repliers) (from .0)) (r .pairs)) Nothing Pending
 
-pub response-answers : (r : Replica) (n x : ℕ) (from : Pid) (time : Time) (row : ℕ) (best : Pair)
-    → responseCounted r n x from time row best ≡ cond (isMajority n r from) (chosen r x time row best) (asking r from time row best)
+pub response-answers : (r : Replica) (n x : ℕ) (from : Pid) (time : Time) (row : ℕ) (gathered : Gathered)
+    → responseCounted r n x from time row gathered ≡ cond (isMajority n r from) (chosen r x time row (gathered .best)) (asking r from time row gathered)
 unfolding responseCounted
-response-answers r n x from time row best = refl
+response-answers r n x from time row gathered = refl
 
 pub ack-answers : (r : Replica) (n : ℕ) (from : Pid) (time : Time) (row : ℕ) (sent : Pair)
     → ackCounted r n from time row sent ≡ cond (isMajority n r from) (ended r time sent) (waiting r from time row sent)
@@ -68,10 +70,10 @@ pub data Answers (n x : ℕ) (r : Replica) (m : Message) : Body → Answer → T
   replies : (y : ℕ) → Answers n x r m (Query y) (queryRule r (m .from) (m .time) (m .rid) y)
   stores : (y : ℕ) (pair : Pair) → Answers n x r m (Update y pair) (updateRule r (m .from) (m .time) (m .rid) y pair)
   discards : (body : Body) → Answers n x r m body (discarded r)
-  asks : (pair : Pair) (row : ℕ) (best : Pair) → r .phase ≡ Querying row best → m .rid .0 ≡ r .rid .0 → isMajority n r (m .from) ≡ false
-      → Answers n x r m (Response pair) (asking r (m .from) (m .time) row (newer best pair))
-  chooses : (pair : Pair) (row : ℕ) (best : Pair) → r .phase ≡ Querying row best → m .rid .0 ≡ r .rid .0 → isMajority n r (m .from) ≡ true
-      → Answers n x r m (Response pair) (chosen r x (m .time) row (newer best pair))
+  asks : (pair : Pair) (row : ℕ) (gathered : Gathered) → r .phase ≡ Querying row gathered → m .rid .0 ≡ r .rid .0 → isMajority n r (m .from) ≡ false
+      → Answers n x r m (Response pair) (asking r (m .from) (m .time) row (gatheredWith gathered pair))
+  chooses : (pair : Pair) (row : ℕ) (gathered : Gathered) → r .phase ≡ Querying row gathered → m .rid .0 ≡ r .rid .0 → isMajority n r (m .from) ≡ true
+      → Answers n x r m (Response pair) (chosen r x (m .time) row (gatheredWith gathered pair .best))
   waits : (row : ℕ) (sent : Pair) → r .phase ≡ Updating row sent → m .rid .0 ≡ r .rid .0 → isMajority n r (m .from) ≡ false
       → Answers n x r m Ack (waiting r (m .from) (m .time) row sent)
   ends : (row : ℕ) (sent : Pair) → r .phase ≡ Updating row sent → m .rid .0 ≡ r .rid .0 → isMajority n r (m .from) ≡ true
@@ -86,22 +88,22 @@ module _ (n x : ℕ) (r : Replica) (m : Message) where
   unfolding responseCounted
   response-given pair Idle f = Answers.discards (Response pair)
   response-given pair (Updating row sent) f = Answers.discards (Response pair)
-  response-given pair (Querying row best) f = counts (eqb (m .rid .0) (r .rid .0)) refl
+  response-given pair (Querying row gathered) f = counts (eqb (m .rid .0) (r .rid .0)) refl
     where
       made : m .rid .0 ≡ r .rid .0 → (b : Bool) → isMajority n r (m .from) ≡ b
-          → Given (Response pair) (cond b (chosen r x (m .time) row (newer best pair)) (asking r (m .from) (m .time) row (newer best pair)))
-      made present true h = Answers.chooses pair row best f present h
-      made present false h = Answers.asks pair row best f present h
+          → Given (Response pair) (cond b (chosen r x (m .time) row (gatheredWith gathered pair .best)) (asking r (m .from) (m .time) row (gatheredWith gathered pair)))
+      made present true h = Answers.chooses pair row gathered f present h
+      made present false h = Answers.asks pair row gathered f present h
 
       counts : (b : Bool) → eqb (m .rid .0) (r .rid .0) ≡ b
-          → Given (Response pair) (responseTaken (cond b (For row best) Not) r n x (m .from) (m .time) pair)
+          → Given (Response pair) (responseTaken (cond b (For row gathered) Not) r n x (m .from) (m .time) pair)
       counts true g = made (eqb-true _ _ g) (isMajority n r (m .from)) refl
       counts false g = Answers.discards (Response pair)
 
   ack-given : (phase : Phase) → r .phase ≡ phase → Given Ack (ackTaken (ackCounts phase (r .rid) (m .rid)) r n (m .from) (m .time))
   unfolding ackCounted
   ack-given Idle f = Answers.discards Ack
-  ack-given (Querying row best) f = Answers.discards Ack
+  ack-given (Querying row gathered) f = Answers.discards Ack
   ack-given (Updating row sent) f = counts (eqb (m .rid .0) (r .rid .0)) refl
     where
       made : m .rid .0 ≡ r .rid .0 → (b : Bool) → isMajority n r (m .from) ≡ b
@@ -109,7 +111,7 @@ module _ (n x : ℕ) (r : Replica) (m : Message) where
       made present true h = Answers.ends row sent f present h
       made present false h = Answers.waits row sent f present h
 
-      counts : (b : Bool) → eqb (m .rid .0) (r .rid .0) ≡ b → Given Ack (ackTaken (cond b (For row sent) Not) r n (m .from) (m .time))
+      counts : (b : Bool) → eqb (m .rid .0) (r .rid .0) ≡ b → Given Ack (ackTaken (cond b (AckFor row sent) NoAck) r n (m .from) (m .time))
       counts true g = made (eqb-true _ _ g) (isMajority n r (m .from)) refl
       counts false g = Answers.discards Ack
 

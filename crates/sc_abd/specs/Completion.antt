@@ -69,8 +69,8 @@ unfolding queryRule updateRule
 ends-or-not (replies y) = inl refl
 ends-or-not (stores y pair) = inl refl
 ends-or-not (discards body) = inl refl
-ends-or-not (asks pair row best f present few) = inl refl
-ends-or-not (chooses pair row best f present many) = inl refl
+ends-or-not (asks pair row gathered f present few) = inl refl
+ends-or-not (chooses pair row gathered f present many) = inl refl
 ends-or-not (waits row sent f present few) = inl refl
 ends-or-not (ends row sent f present many) = inr (record { ack = refl; present = present; row = row; sent = sent; phase = f; majority = many })
 

@@ -4,6 +4,7 @@ use Prim.Native.Nat.{ℕ, _+_, _-_, _≤_, _<_}
 use mathlib.Core.Path.{_≡_}
 use mathlib.Core.Bool.{true}
 use lib.ListN.{length}
+use Rattle.words.specs.Limits.{mostEvents, mostFlight, mostRows}
 use Rattle.words.specs.Ranges.{within}
 use Rattle.tables.specs.declared.Found.the-variants.{At as Place}
 use Rattle.tables.specs.Tables.{seek}
@@ -31,13 +32,13 @@ registerOf (Call.WRITE r v) = r
 -- for what the algorithm then sends, 512 in flight after it
 abbrev pub RoomLeft : State → System → Action → Type 0
 RoomLeft s a (Action.invoke i call) =
-    (within (registerOf call) (s .m) ≡ true) × (length (s .rows) < 1024) × (length (s .flight) + s .n ≤ 512)
-RoomLeft s a (Action.receive place) = length (s .flight) - 1 + length (onArrival a place .sends) ≤ 512
+    (within (registerOf call) (s .m) ≡ true) × (length (s .rows) < mostRows) × (length (s .flight) + s .n ≤ mostFlight)
+RoomLeft s a (Action.receive place) = length (s .flight) - 1 + length (onArrival a place .sends) ≤ mostFlight
 RoomLeft s a (Action.crash i) = Unit {0}
 RoomLeft s a (Action.lose place) = Unit {0}
 
 abbrev pub WithinLimits : State → System → Action → Type 0
-WithinLimits s a action = (s .accepted < 12000) × RoomLeft s a action
+WithinLimits s a action = (s .accepted < mostEvents) × RoomLeft s a action
 
 -- the states that a bench reaches from a fresh start
 pub data ReachedBy (f : State → Event → Outcome) : State → Type 0 where

@@ -5,6 +5,7 @@ use mathlib.Core.Path.{_≡_}
 use mathlib.Core.Bool.{true}
 use mathlib.Core.List.{List, [], _∷_}
 use lib.ListN.{length}
+use Rattle.words.specs.Limits.{mostEvents, mostFlight, mostRows}
 use Rattle.words.specs.Ranges.{within}
 use Rattle.state.specs.declared.Event.{Event}
 use Rattle.state.specs.State.{State, fresh}
@@ -22,8 +23,8 @@ after n (action ∷ steps) = taken (after n steps) action
 -- 512 in transit after it
 abbrev pub RoomFor : ℕ → System → Action → Type 0
 RoomFor m a (Action.invoke i call) =
-    (within (registerOf call) m ≡ true) × (length (a .history) < 1024) × (length (a .transit) + a .n ≤ 512)
-RoomFor m a (Action.receive place) = length (a .transit) - 1 + length (onArrival a place .sends) ≤ 512
+    (within (registerOf call) m ≡ true) × (length (a .history) < mostRows) × (length (a .transit) + a .n ≤ mostFlight)
+RoomFor m a (Action.receive place) = length (a .transit) - 1 + length (onArrival a place .sends) ≤ mostFlight
 RoomFor m a (Action.crash i) = Unit {0}
 RoomFor m a (Action.lose place) = Unit {0}
 
@@ -31,7 +32,7 @@ RoomFor m a (Action.lose place) = Unit {0}
 pub data Execution (n m : ℕ) : List Action → Type 0 where
   start : Execution n m []
   next : (steps : List Action) (action : Action) → Execution n m steps
-      → length steps < 12000 → Enabled (after n steps) action → RoomFor m (after n steps) action → Execution n m (action ∷ steps)
+      → length steps < mostEvents → Enabled (after n steps) action → RoomFor m (after n steps) action → Execution n m (action ∷ steps)
 
 -- bench f, started with n processes and m registers, has performed these steps and is in this state: for each step it has accepted an event that names it
 pub data Performed (f : State → Event → Outcome) (n m : ℕ) : List Action → State → Type 0 where

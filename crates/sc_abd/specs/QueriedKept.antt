@@ -15,6 +15,7 @@ use Rattle.words.specs.Quorum.{joined, counted, majorityOf}
 use Rattle.words.specs.QuorumLaws.{joined-inside}
 use Rattle.replica.specs.declared.Answer.{Answer}
 use Rattle.replica.specs.declared.Phase.{Phase}
+use Rattle.replica.specs.declared.Gathered.{Gathered}
 use Rattle.replica.specs.declared.Phase.the-variants.{Idle, Querying, Updating}
 use Rattle.replica.specs.declared.Replica.{Replica}
 use Rattle.replica.specs.Handlers.{discarded, readRule, writeRule, queryRule, updateRule, crashRule}
@@ -68,7 +69,7 @@ KindsStay s rows = (row : ℕ) → Within row (length (s .rows)) → getD rows (
 updated-read : (s : State) (rows : List Row) → KindsStay s rows → (p : ℕ) (phase : Phase) (repliers : ℕ) → PhaseOk s p phase repliers
     → UpdatesRead rows phase → UpdatesRead (s .rows) phase
 updated-read s rows kinds p Idle repliers ok u = u
-updated-read s rows kinds p (Querying row best) repliers ok u = u
+updated-read s rows kinds p (Querying row gathered) repliers ok u = u
 updated-read s rows kinds p (Updating row sent) repliers ok u = sym (kinds row (pending-within p row (s .rows) (ok .0))) ∙ u
 
 -- ---- one event more
@@ -110,10 +111,10 @@ module _ (s : State) (w : Well s) (run : List Moment) (filled : AllFilled s run)
     still = same-queried (Deliver k) rows kinds p actor (replicaOf s p) refl refl
 
     -- the response that makes a majority
-    responded : (pair : Pair) (row : ℕ) (best : Pair) → messageAt s i .body ≡ Response pair → replicaOf s p .phase ≡ Querying row best
+    responded : (pair : Pair) (row : ℕ) (gathered : Gathered) → messageAt s i .body ≡ Response pair → replicaOf s p .phase ≡ Querying row gathered
         → messageAt s i .rid .0 ≡ replicaOf s p .rid .0 → isMajority (s .n) (replicaOf s p) (messageAt s i .from) ≡ true
         → MajorityReplied (s .n) p (replicaOf s p .rid .0) Stage.querying (longer s (Deliver k) run)
-    responded pair row best e f present many =
+    responded pair row gathered e f present many =
         let m = messageAt s i in
         let r = replicaOf s p in
         subst (λ x. MajorityReplied (s .n) p (r .rid .0) (stageOf x) (longer s (Deliver k) run)) f
@@ -127,9 +128,9 @@ module _ (s : State) (w : Well s) (run : List Moment) (filled : AllFilled s run)
     taken-queried (replies y) e = still
     taken-queried (stores y pair) e = still
     taken-queried (discards body) e = still
-    taken-queried (asks pair row best f present few) e = λ u. absurd u
-    taken-queried (chooses pair row best f present many) e =
-        λ u. record { query = replicaOf s p .rid .0; next = refl; responded = responded pair row best e f present many }
+    taken-queried (asks pair row gathered f present few) e = λ u. absurd u
+    taken-queried (chooses pair row gathered f present many) e =
+        λ u. record { query = replicaOf s p .rid .0; next = refl; responded = responded pair row gathered e f present many }
     taken-queried (waits row sent f present few) e =
         same-queried (Deliver k) rows kinds p actor (waiting (replicaOf s p) (messageAt s i .from) (messageAt s i .time) row sent .replica) refl (sym f)
     taken-queried (ends row sent f present many) e = λ u. absurd u

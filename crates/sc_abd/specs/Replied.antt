@@ -69,7 +69,7 @@ pub record AllFilled (s : State) (run : List Moment) : Type 0 where
 -- p updates for a read
 abbrev pub UpdatesRead : List Row → Phase → Type 0
 UpdatesRead rows Idle = ⊥
-UpdatesRead rows (Querying row best) = ⊥
+UpdatesRead rows (Querying row gathered) = ⊥
 UpdatesRead rows (Updating row sent) = getD rows (row - 1) emptyRow .kind ≡ Read
 
 -- then it has queried before

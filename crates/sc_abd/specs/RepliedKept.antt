@@ -11,9 +11,9 @@ use Rattle.words.specs.declared.Body.{Body}
 use Rattle.words.specs.declared.Message.{Message}
 use Rattle.words.specs.Quorum.{member, joined, counted, majorityOf}
 use Rattle.words.specs.QuorumLaws.{Inside, joined-only}
-use Rattle.words.specs.Stamps.{newer}
 use Rattle.replica.specs.declared.Answer.{Answer}
 use Rattle.replica.specs.declared.Replica.{Replica}
+use Rattle.replica.specs.Gathering.{gatheredWith}
 use Rattle.replica.specs.Handlers.{discarded, readRule, writeRule, queryRule, updateRule, crashRule}
 use Rattle.tables.specs.declared.Found.the-variants.{At as Place}
 use Rattle.tables.specs.declared.Row.{Row}
@@ -118,11 +118,11 @@ module _ (s : State) (w : Well s) (run : List Moment) (filled : AllFilled s run)
     taken-filled (replies y) e = still
     taken-filled (stores y pair) e = still
     taken-filled (discards body) e = still
-    taken-filled (asks pair row best f present few) e =
+    taken-filled (asks pair row gathered f present few) e =
         joins (ap isReply e) present (ap stageFor e ∙ ap stageOf (sym f))
-        (asking (replicaOf s p) (messageAt s i .from) (messageAt s i .time) row (newer best pair) .replica) refl refl (ap stageOf (sym f))
-    taken-filled {register} (chooses pair row best f present many) e =
-        none-filled p (chosen (replicaOf s p) register (messageAt s i .time) row (newer best pair) .replica) _ refl
+        (asking (replicaOf s p) (messageAt s i .from) (messageAt s i .time) row (gatheredWith gathered pair) .replica) refl refl (ap stageOf (sym f))
+    taken-filled {register} (chooses pair row gathered f present many) e =
+        none-filled p (chosen (replicaOf s p) register (messageAt s i .time) row (gatheredWith gathered pair .best) .replica) _ refl
     taken-filled (waits row sent f present few) e =
         joins (ap isReply e) present (ap stageFor e ∙ ap stageOf (sym f))
         (waiting (replicaOf s p) (messageAt s i .from) (messageAt s i .time) row sent .replica) refl refl (ap stageOf (sym f))

@@ -86,7 +86,7 @@ pub record SameReplies (repliers : ℕ) (responses : List Reply) : Type 0 where
 -- the rows that a phase points to
 abbrev pub pointedRows : Phase → List ℕ
 pointedRows Idle = []
-pointedRows (Querying row best) = row ∷ []
+pointedRows (Querying row gathered) = row ∷ []
 pointedRows (Updating row sent) = row ∷ []
 
 abbrev pub isRead : Kind → Bool
@@ -110,7 +110,7 @@ pub record SameUpdate (row : Row) (sent : Pair) (q : Process) (asks : Bool) : Ty
 
 abbrev pub SamePhase : State → Phase → Process → Bool → Type 0
 SamePhase s Idle q asks = q .responses ≡ []
-SamePhase s (Querying row best) q asks = SameQuery (rowOf s row) best q asks
+SamePhase s (Querying row gathered) q asks = SameQuery (rowOf s row) (gathered .best) q asks
 SamePhase s (Updating row sent) q asks = SameUpdate (rowOf s row) sent q asks
 
 pub record SameProcess (s : State) (p : ℕ) (r : Replica) (q : Process) (asks : Bool) : Type 0 where

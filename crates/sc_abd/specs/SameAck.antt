@@ -61,7 +61,7 @@ module _ (r : Replica) (n : ℕ) (m : Message) where
     where
       go : (phase : Phase) → ackTaken (ackCounts phase (r .rid) (m .rid)) r n (m .from) (m .time) ≡ discarded r
       go Idle = refl
-      go (Querying row best) = refl
+      go (Querying row gathered) = refl
       go (Updating row sent) = rw (ne-eqb (m .rid .0) (r .rid .0) f) refl
 
   pub ack-for : (row : ℕ) (sent : Pair) → r .phase ≡ Updating row sent → m .rid .0 ≡ r .rid .0
@@ -259,4 +259,4 @@ module _ (s : State) (w : Well s) (n : Numbered s) (a : System) (same : Same s a
           → Meets ours theirs
       updating (Updating row sent) g e = counts row sent g e
       updating Idle g e = absurd (idle-not-updating (ap stageOf (sym g) ∙ stage e))
-      updating (Querying row best) g e = absurd (querying-not-updating (ap stageOf (sym g) ∙ stage e))
+      updating (Querying row gathered) g e = absurd (querying-not-updating (ap stageOf (sym g) ∙ stage e))

@@ -57,7 +57,7 @@ module _ (s : State) (w : Well s) (a : System) (same : Same s a) where
 
   phase-lost : (i : ℕ) (phase : Phase) (q : Process) (asks : Bool) → SamePhase s phase q asks → SamePhase (withoutMessage s i) phase q asks
   phase-lost i Idle q asks h = h
-  phase-lost i (Querying row best) q asks h = h
+  phase-lost i (Querying row gathered) q asks h = h
   phase-lost i (Updating row sent) q asks h = h
 
   pub same-lose : (i : ℕ) → Same (withoutMessage s i) (taken a (Action.lose i))

@@ -10,6 +10,7 @@ use borrow.Author.Tests.{eq-eqb}
 use Rattle.words.specs.declared.Pair.{Pair}
 use Rattle.replica.specs.declared.Phase.{Phase}
 use Rattle.replica.specs.declared.Phase.the-variants.{Idle, Querying, Updating}
+use Rattle.replica.specs.Gathering.{gatheredFrom}
 use Rattle.replica.specs.Handlers.{isIdle}
 use Rattle.tables.specs.declared.Kind.{Kind}
 use Rattle.tables.specs.declared.Kind.the-variants.{Read, Write}
@@ -77,15 +78,15 @@ module _ (s t : State) (a : System) (one : Same s a) (other : Same t a) where
     alike : (x y : Phase) → pointedRows x ≡ pointedRows y → SamePhase s x (a .processes p) (a .asking p) → SamePhase t y (a .processes p) (a .asking p)
         → x ≡ y
     alike Idle Idle e h k = refl
-    alike Idle (Querying row best) e h k = let z : _≡_ {A = ℕ} 0 1 = cc in absurd (omega arith)
+    alike Idle (Querying row gathered) e h k = let z : _≡_ {A = ℕ} 0 1 = cc in absurd (omega arith)
     alike Idle (Updating row sent) e h k = let z : _≡_ {A = ℕ} 0 1 = cc in absurd (omega arith)
-    alike (Querying row best) Idle e h k = let z : _≡_ {A = ℕ} 0 1 = cc in absurd (omega arith)
-    alike (Querying row best) (Querying row′ best′) e h k =
+    alike (Querying row gathered) Idle e h k = let z : _≡_ {A = ℕ} 0 1 = cc in absurd (omega arith)
+    alike (Querying row gathered) (Querying row′ gathered′) e h k =
         let rows : row ≡ row′ = cc in
-        ap₂ Querying rows (tsv-once best best′ (sym (h .best-so-far) ∙ k .best-so-far))
-    alike (Querying row best) (Updating row′ sent) e h k = absurd (false≢true (sym (k .asking) ∙ h .asking))
+        ap₂ Querying rows (ap gatheredFrom (tsv-once (gathered .best) (gathered′ .best) (sym (h .best-so-far) ∙ k .best-so-far)))
+    alike (Querying row gathered) (Updating row′ sent) e h k = absurd (false≢true (sym (k .asking) ∙ h .asking))
     alike (Updating row sent) Idle e h k = let z : _≡_ {A = ℕ} 0 1 = cc in absurd (omega arith)
-    alike (Updating row sent) (Querying row′ best) e h k = absurd (false≢true (sym (h .asking) ∙ k .asking))
+    alike (Updating row sent) (Querying row′ gathered) e h k = absurd (false≢true (sym (h .asking) ∙ k .asking))
     alike (Updating row sent) (Updating row′ sent′) e h k =
         let rows : row ≡ row′ = cc in
         ap₂ Updating rows (tsv-once sent sent′ (sym (h .pair-sent) ∙ k .pair-sent))
@@ -107,7 +108,7 @@ call-outstanding p (x ∷ history) o e = rw (call-outstanding p history o e) (or
 module _ (s : State) (p : ℕ) (least : 1 ≤ p) (most : p ≤ s .n) where
   points-nowhere : (phase : Phase) → isIdle phase ≡ isEmpty (pointedRows phase)
   points-nowhere Idle = refl
-  points-nowhere (Querying row best) = refl
+  points-nowhere (Querying row gathered) = refl
   points-nowhere (Updating row sent) = refl
 
   pub idle-exactly : (a : System) → Same s a → outstanding p (a .history) ≡ not (isIdle (replicaOf s p .phase))
@@ -123,7 +124,7 @@ module _ (s : State) (p : ℕ) (least : 1 ≤ p) (most : p ≤ s .n) where
       go : (phase : Phase) → not (isIdle phase) ≡ true → SamePhase s phase (a .processes p) (a .asking p)
           → stageOf phase ≡ cond asks Stage.querying Stage.updating
       go Idle f h = absurd (false≢true f)
-      go (Querying row best) f h = rw (sym e ∙ h .asking) refl
+      go (Querying row gathered) f h = rw (sym e ∙ h .asking) refl
       go (Updating row sent) f h = rw (sym e ∙ h .asking) refl
 
   -- a process that has just begun a read is querying, one that has just begun a write is updating

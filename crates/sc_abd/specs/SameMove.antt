@@ -36,7 +36,7 @@ module _ (s : State) (p : ℕ) (answer : Answer) (flight : List Message) (delive
   phase-moved : (phase : Phase) (process : Process) (asks : Bool) → pendingOf q 1 (s .rows) ≡ pointedRows phase → SamePhase s phase process asks
       → SamePhase (moved s p answer flight delivered rows) phase process asks
   phase-moved Idle process asks e h = h
-  phase-moved (Querying row best) process asks e h = subst (λ r. SameQuery r best process asks) (sym (k .row row e)) h
+  phase-moved (Querying row gathered) process asks e h = subst (λ r. SameQuery r (gathered .best) process asks) (sym (k .row row e)) h
   phase-moved (Updating row sent) process asks e h = subst (λ r. SameUpdate r sent process asks) (sym (k .row row e)) h
 
   pub process-moved : (r : Replica) (process : Process) (asks : Bool) → SameProcess s q r process asks

@@ -43,7 +43,7 @@ phase-at : (s : State) (phase : Phase) (q : Process) (asks : Bool) (lt : ℕ) (t
     (record { lt = lt; reading = q .reading; rreg = q .rreg; rid = q .rid; tsv = q .tsv; rval = q .rval; tvps = tvps; responses = q .responses })
     asks
 phase-at s Idle q asks lt tvps h = h
-phase-at s (Querying row best) q asks lt tvps h =
+phase-at s (Querying row gathered) q asks lt tvps h =
     record { asking = h .asking; reading = h .reading; register = h .register; best-so-far = h .best-so-far }
 phase-at s (Updating row sent) q asks lt tvps h =
     record { asking = h .asking; reading = h .reading; pair-sent = h .pair-sent; gives = h .gives; written = h .written }

@@ -12,12 +12,13 @@ use borrow.Author.Tests.{eq-eqb, ne-eqb}
 use Rattle.words.specs.declared.Body.the-variants.{Response}
 use Rattle.words.specs.declared.Message.{Message}
 use Rattle.words.specs.declared.Pair.{Pair}
-use Rattle.words.specs.Stamps.{newer}
 use Rattle.words.specs.Quorum.{member}
 use Rattle.replica.specs.declared.Answer.{Answer}
+use Rattle.replica.specs.declared.Gathered.{Gathered}
 use Rattle.replica.specs.declared.Phase.{Phase}
 use Rattle.replica.specs.declared.Phase.the-variants.{Idle, Querying, Updating}
 use Rattle.replica.specs.declared.Replica.{Replica}
+use Rattle.replica.specs.Gathering.{gatheredWith}
 use Rattle.replica.specs.Handlers.{discarded, responseCounts, responseTaken, responseRule}
 use Rattle.replica.specs.Numbers.{pointed}
 use Rattle.tables.specs.declared.Kind.{Kind}
@@ -65,16 +66,16 @@ module _ (r : Replica) (n : ℕ) (m : Message) (pair : Pair) where
     where
       go : (phase : Phase) → responseTaken (responseCounts phase (r .rid) (m .rid)) r n x (m .from) (m .time) pair ≡ discarded r
       go Idle = refl
-      go (Querying row best) = rw (ne-eqb (m .rid .0) (r .rid .0) f) refl
+      go (Querying row gathered) = rw (ne-eqb (m .rid .0) (r .rid .0) f) refl
       go (Updating row sent) = refl
 
-  response-for : (s : State) (row : ℕ) (best : Pair) → r .phase ≡ Querying row best → m .rid .0 ≡ r .rid .0
+  response-for : (s : State) (row : ℕ) (gathered : Gathered) → r .phase ≡ Querying row gathered → m .rid .0 ≡ r .rid .0
       → responseRule r n (askedRegister s (r .phase)) (m .from) (m .time) (m .rid) pair
-      ≡ cond (isMajority n r (m .from)) (chosen r (rowOf s row .register) (m .time) row (newer best pair)) (asking r (m .from) (m .time) row (newer best pair))
+      ≡ cond (isMajority n r (m .from)) (chosen r (rowOf s row .register) (m .time) row (gatheredWith gathered pair .best)) (asking r (m .from) (m .time) row (gatheredWith gathered pair))
   unfolding responseRule
-  response-for s row best f e =
+  response-for s row gathered f e =
       ap (λ phase. responseTaken (responseCounts phase (r .rid) (m .rid)) r n (askedRegister s phase) (m .from) (m .time) pair) f
-      ∙ rw (eq-eqb (m .rid .0) (r .rid .0) e) (response-answers r n (rowOf s row .register) (m .from) (m .time) row (newer best pair))
+      ∙ rw (eq-eqb (m .rid .0) (r .rid .0) e) (response-answers r n (rowOf s row .register) (m .from) (m .time) row (gatheredWith gathered pair))
 
 -- the same of the algorithm, by its own test
 paper-not : (n i : ℕ) (q : Process) (j lt rid : ℕ) (tsv : Tsv) → q .rid ≢ rid → onResponse n i q j lt rid tsv ≡ unhandled q
@@ -109,10 +110,10 @@ module _ (s : State) (w : Well s) (n : Numbered s) (a : System) (same : Same s a
     abbrev theirs : Done
     theirs = onResponse (s .n) p (a .processes p) (messageAt s i .from .0) (messageAt s i .time .0) (messageAt s i .rid .0) (tsvOf pair)
 
-    module _ (row : ℕ) (best : Pair) (f : replicaOf s p .phase ≡ Querying row best) (e : messageAt s i .rid .0 ≡ replicaOf s p .rid .0) where
+    module _ (row : ℕ) (gathered : Gathered) (f : replicaOf s p .phase ≡ Querying row gathered) (e : messageAt s i .rid .0 ≡ replicaOf s p .rid .0) where
       counts : Meets ours theirs
       counts =
-          subst₂ Meets (sym (response-for r (s .n) m pair s row best f e))
+          subst₂ Meets (sym (response-for r (s .n) m pair s row gathered f e))
           (sym (paper-for (s .n) p q (m .from .0) (m .time .0) (m .rid .0) (tsvOf pair) after (sym (mine .number) ∙ sym e)
           (joins (r .repliers) (q .responses) (mine .replies) reply sender-small new)))
           (go (isMajority (s .n) r (m .from)) refl)
@@ -135,13 +136,13 @@ module _ (s : State) (w : Well s) (n : Numbered s) (a : System) (same : Same s a
           after : List Reply
           after = q .responses ++ (reply ∷ [])
 
-          newest : Pair
-          newest = newer best pair
+          more : Gathered
+          more = gatheredWith gathered pair
 
           new : member (r .repliers) (m .from .0) ≡ false
           new = not-counted s n i l p to (rw is refl) e (actor .least)
 
-          phase : SameQuery (rowOf s row) best q (a .asking p)
+          phase : SameQuery (rowOf s row) (gathered .best) q (a .asking p)
           phase = subst (λ ph. SamePhase s ph q (a .asking p)) f (mine .phase)
 
           only : pendingOf p 1 (s .rows) ≡ row ∷ []
@@ -150,8 +151,8 @@ module _ (s : State) (w : Well s) (n : Numbered s) (a : System) (same : Same s a
           kind : isRead (rowOf s row .kind) ≡ true
           kind = read-kind (rowOf s row .kind) (subst (λ ph. PhaseOk s p ph (r .repliers)) f (w .replica p actor .phase) .1)
 
-          greatest : maxOf after ≡ tsvOf newest
-          greatest = max-more (q .responses) (tsvOf pair) (m .from .0) ∙ ap (λ v. maxTsv v (tsvOf pair)) (phase .best-so-far) ∙ sym (tsv-newer best pair)
+          greatest : maxOf after ≡ tsvOf (more .best)
+          greatest = max-more (q .responses) (tsvOf pair) (m .from .0) ∙ ap (λ v. maxTsv v (tsvOf pair)) (phase .best-so-far) ∙ sym (tsv-newer (gathered .best) pair)
 
           test : eqb (length after) (majority (s .n)) ≡ isMajority (s .n) r (m .from)
           test = majority-test (r .repliers) (q .responses) (mine .replies) reply sender-small new (s .n) (w .replica p actor .few)
@@ -160,11 +161,11 @@ module _ (s : State) (w : Well s) (n : Numbered s) (a : System) (same : Same s a
           clock = clock-after s w a same i p actor m
 
           go : (b : Bool) → isMajority (s .n) r (m .from) ≡ b
-              → Meets (cond b (chosen r (rowOf s row .register) (m .time) row newest) (asking r (m .from) (m .time) row newest))
+              → Meets (cond b (chosen r (rowOf s row .register) (m .time) row (more .best)) (asking r (m .from) (m .time) row more))
               (paperCounted (s .n) p q (max (q .lt) (m .time .0) + 1) after)
           go true h =
               rw (test ∙ h)
-              (same-received s w a same i p actor (chosen r (rowOf s row .register) (m .time) row newest) _ refl
+              (same-received s w a same i p actor (chosen r (rowOf s row .register) (m .time) row (more .best)) _ refl
               (record {
                 clock = clock;
                 number = ap (λ t. t + 1) (mine .number);
@@ -181,12 +182,12 @@ module _ (s : State) (w : Well s) (n : Numbered s) (a : System) (same : Same s a
                     };
               })
               (packets-sent (s .n) (messageOf (s .sent + 1) p 1 _)
-              ∙ ap₂ (λ t u. bcast (s .n) p (Content.update t (u + 1) (rowOf s row .register) (tsvOf newest))) clock (mine .number)
+              ∙ ap₂ (λ t u. bcast (s .n) p (Content.update t (u + 1) (rowOf s row .register) (tsvOf (more .best)))) clock (mine .number)
               ∙ ap₂ (λ x v. bcast (s .n) p (Content.update (max (q .lt) (m .time .0) + 1) (q .rid + 1) x v)) (sym (phase .register)) (sym greatest))
               refl)
           go false h =
               rw (test ∙ h)
-              (same-received s w a same i p actor (asking r (m .from) (m .time) row newest) _ refl
+              (same-received s w a same i p actor (asking r (m .from) (m .time) row more) _ refl
               (record {
                 clock = clock;
                 number = mine .number;
@@ -214,6 +215,6 @@ module _ (s : State) (w : Well s) (n : Numbered s) (a : System) (same : Same s a
 
         querying : (phase : Phase) → replicaOf s p .phase ≡ phase → messageAt s i .rid .0 ≡ replicaOf s p .rid .0
             → Meets ours theirs
-        querying (Querying row best) g e = counts row best g e
+        querying (Querying row gathered) g e = counts row gathered g e
         querying Idle g e = absurd (idle-not-querying (ap stageOf (sym g) ∙ stage e))
         querying (Updating row sent) g e = absurd (updating-not-querying (ap stageOf (sym g) ∙ stage e))

@@ -23,7 +23,7 @@ use Rattle.sc_abd.specs.Theorem.{step-meets-demand2}
 module _ (s : State) (sent : ℕ) where
   phase-uncounted : (phase : Phase) (q : Process) (asks : Bool) → SamePhase s phase q asks → SamePhase (saidSent sent s) phase q asks
   phase-uncounted Idle q asks h = h
-  phase-uncounted (Querying row best) q asks h = h
+  phase-uncounted (Querying row gathered) q asks h = h
   phase-uncounted (Updating row pair) q asks h = h
 
   process-uncounted : (p : ℕ) (r : Replica) (q : Process) (asks : Bool) → SameProcess s p r q asks → SameProcess (saidSent sent s) p r q asks

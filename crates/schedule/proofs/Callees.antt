@@ -71,6 +71,8 @@ use Rattle.schedule.proofs.turns.ended as ended
 use Rattle.schedule.proofs.turns.ended.Symbol.{name as #schedule·ended}
 use Rattle.format.proofs.events.event_at as event-at
 use Rattle.format.proofs.events.event_at.Symbol.{name as #format·event-at}
+use Rattle.schedule.proofs.carry_out as carry-out
+use Rattle.schedule.proofs.carry_out.Symbol.{name as #schedule·carry-out}
 use Rattle.schedule.proofs.one_event as one-event
 use Rattle.schedule.proofs.one_event.Symbol.{name as #schedule·one-event}
 
@@ -110,6 +112,9 @@ module _ {M : Type 1} (𝓤 : URA M) (H : Heap 𝓤) (A : Atoms 𝓤) (mem : Mem
 
   abbrev pub EventAts : Contract 𝓤
   EventAts = tripleOf 𝓤 H A event-at.signature (event-at.spec 𝓤 H A mem run)
+
+  abbrev pub CarryOuts : Contract 𝓤
+  CarryOuts = tripleOf 𝓤 H A carry-out.signature (carry-out.spec 𝓤 H A mem run)
 
   abbrev pub OneEvents : Contract 𝓤
   OneEvents = tripleOf 𝓤 H A one-event.signature (one-event.spec 𝓤 H A mem run)
@@ -271,15 +276,28 @@ module _ {M : Type 1} {𝓤 : URA M} {H : Heap 𝓤} {A : Atoms 𝓤} {K : Type 
       (λ r. r ≡ eventAt ys place) (λ r ws. id⊢ 𝓤 _) os
       (λ v r is φ. subst (λ (u : Val). Seq K W (‵ (Shr u8 κ b o n γ ys) ∷ ‵ (flft κ q) ∷ Γ) (lands C Λ E d u rest p)) (sym (ap only (tells-Parse r (v ∷ []) is))) (k r (subst (Is R-Parse r) (tells-Parse r (v ∷ []) is) is) φ))
 
-  -- ---- `one_event`
-  pub calls-one-event : K → FmC 𝓤 H (W .laws) C → (mem : Memory → SProp 𝓤) (run : Routine → Fun 𝓤) → Triple 𝓤 (C #schedule·one-event) (OneEvents 𝓤 H A mem run) → {κ₀ κ₁ : Lft} {q₀ q₁ : Share} {γ₀ γ₁ : GName} (b₀ o₀ n₀ b₁ o₁ n₁ : ℕ) (ys₀ : List Message) (ys₁ : List Row) → length ys₀ ≡ n₀ → length ys₁ ≡ n₁ → Room R-Message n₀ → Room R-Row n₁ → (bench : Bench) (parse : Parse) → Is R-Bench bench (vals-Bench bench) → Is R-Parse parse (vals-Parse parse) → tabled bench ys₀ ys₁ ≡ true
+  -- ---- `carry_out`
+  pub calls-carry-out : K → FmC 𝓤 H (W .laws) C → (mem : Memory → SProp 𝓤) (run : Routine → Fun 𝓤) → Triple 𝓤 (C #schedule·carry-out) (CarryOuts 𝓤 H A mem run) → {κ₀ κ₁ : Lft} {q₀ q₁ : Share} {γ₀ γ₁ : GName} (b₀ o₀ n₀ b₁ o₁ n₁ : ℕ) (ys₀ : List Message) (ys₁ : List Row) → length ys₀ ≡ n₀ → length ys₁ ≡ n₁ → Room R-Message n₀ → Room R-Row n₁ → (bench : Bench) (parse : Parse) → Is R-Bench bench (vals-Bench bench) → Is R-Parse parse (vals-Parse parse) → tabled bench ys₀ ys₁ ≡ true → isNext parse ≡ true
       → ((P : SProp 𝓤) (L₁ L₀ T : Fml) → Opds K W (raw P ∷ ‵ L₁ ∷ ‵ L₀ ∷ ‵ T ∷ Γ) E xs (sliceVal (b₀, o₀) n₀ ∷ sliceVal (b₁, o₁) n₁ ∷ val-Bench bench ∷ val-Parse parse ∷ []))
       → ((zs₀ : List Message) (zs₁ : List Row) (r : Turn) → length zs₀ ≡ n₀ → length zs₁ ≡ n₁ → Is R-Turn r (vals-Turn r) → Turned bench parse ys₀ ys₁ r zs₀ zs₁ → Seq K W (‵ (Mut R-Message κ₀ b₀ o₀ n₀ γ₀ zs₀) ∷ ‵ (flft κ₀ q₀) ∷ ‵ (Mut R-Row κ₁ b₁ o₁ n₁ γ₁ zs₁) ∷ ‵ (flft κ₁ q₁) ∷ Γ) (lands C Λ E d (val-Turn r) rest p))
-      → Seq K W (‵ (Mut R-Message κ₀ b₀ o₀ n₀ γ₀ ys₀) ∷ ‵ (flft κ₀ q₀) ∷ ‵ (Mut R-Row κ₁ b₁ o₁ n₁ γ₁ ys₁) ∷ ‵ (flft κ₁ q₁) ∷ Γ) (runs C Λ E (seq (call #schedule·one-event xs d) rest) p)
-  calls-one-event t fm mem run known {κ₀} {κ₁} {q₀} {q₁} {γ₀} {γ₁} b₀ o₀ n₀ b₁ o₁ n₁ ys₀ ys₁ e₀ e₁ room₀ room₁ bench parse gbench gparse h₀ os k =
-      calls-mut2 t fm R-Message R-Row (plain (λ _. R-Bench) ∷ plain (λ _. R-Parse) ∷ []) R-Turn (yes, (yes, tt)) (one-event.clauses 𝓤 H A mem run) known b₀ o₀ n₀ b₁ o₁ n₁ ys₀ ys₁ e₀ e₁ room₀ room₁
+      → Seq K W (‵ (Mut R-Message κ₀ b₀ o₀ n₀ γ₀ ys₀) ∷ ‵ (flft κ₀ q₀) ∷ ‵ (Mut R-Row κ₁ b₁ o₁ n₁ γ₁ ys₁) ∷ ‵ (flft κ₁ q₁) ∷ Γ) (runs C Λ E (seq (call #schedule·carry-out xs d) rest) p)
+  calls-carry-out t fm mem run known {κ₀} {κ₁} {q₀} {q₁} {γ₀} {γ₁} b₀ o₀ n₀ b₁ o₁ n₁ ys₀ ys₁ e₀ e₁ room₀ room₁ bench parse gbench gparse h₀ h₁ os k =
+      calls-mut2 t fm R-Message R-Row (plain (λ _. R-Bench) ∷ plain (λ _. R-Parse) ∷ []) R-Turn (yes, (yes, tt)) (carry-out.clauses 𝓤 H A mem run) known b₀ o₀ n₀ b₁ o₁ n₁ ys₀ ys₁ e₀ e₁ room₀ room₁
       (λ _ _. (bench, (parse, tt))) (λ _ _. (vals-Bench bench, (vals-Parse parse, tt)))
       (λ _ _. owns-make 𝓤 H A (R-Bench ∷ R-Parse ∷ []) (Ises (R-Bench ∷ R-Parse ∷ [])) (makes-Bench 𝓤 H A, (makes-Parse 𝓤 H A, tt)) (bench, (parse, tt)) (vals-Bench bench, (vals-Parse parse, tt)) (gbench, (gparse, tt)))
-      (λ _ _ _ _. tt) (λ _ _ _ _. factI 𝓤 (tabled bench ys₀ ys₁ ≡ true) (emp 𝓤) h₀)
+      (λ _ _ _ _. tt) (λ _ _ _ _. factI 𝓤 ((tabled bench ys₀ ys₁ ≡ true) × (isNext parse ≡ true)) (emp 𝓤) (h₀, h₁))
       (λ r zs₀ zs₁. Turned bench parse ys₀ ys₁ r zs₀ zs₁) (λ _ _ _ _ r ws. id⊢ 𝓤 _) (λ _ _. os)
+      (λ v r zs₀ zs₁ is len₀ len₁ φ. subst (λ (u : Val). Seq K W (‵ (Mut R-Message κ₀ b₀ o₀ n₀ γ₀ zs₀) ∷ ‵ (flft κ₀ q₀) ∷ ‵ (Mut R-Row κ₁ b₁ o₁ n₁ γ₁ zs₁) ∷ ‵ (flft κ₁ q₁) ∷ Γ) (lands C Λ E d u rest p)) (sym (ap only (tells-Turn r (v ∷ []) is))) (k zs₀ zs₁ r len₀ len₁ (subst (Is R-Turn r) (tells-Turn r (v ∷ []) is) is) φ))
+
+  -- ---- `one_event`
+  pub calls-one-event : K → FmC 𝓤 H (W .laws) C → (mem : Memory → SProp 𝓤) (run : Routine → Fun 𝓤) → Triple 𝓤 (C #schedule·one-event) (OneEvents 𝓤 H A mem run) → {κ₀ κ₁ : Lft} {q₀ q₁ : Share} {γ₀ γ₁ : GName} (b₀ o₀ n₀ b₁ o₁ n₁ : ℕ) (ys₀ : List Message) (ys₁ : List Row) → length ys₀ ≡ n₀ → length ys₁ ≡ n₁ → Room R-Message n₀ → Room R-Row n₁ → (last : Turn) (parse : Parse) → Is R-Turn last (vals-Turn last) → Is R-Parse parse (vals-Parse parse) → tabled (last .bench) ys₀ ys₁ ≡ true
+      → ((P : SProp 𝓤) (L₁ L₀ T : Fml) → Opds K W (raw P ∷ ‵ L₁ ∷ ‵ L₀ ∷ ‵ T ∷ Γ) E xs (sliceVal (b₀, o₀) n₀ ∷ sliceVal (b₁, o₁) n₁ ∷ val-Turn last ∷ val-Parse parse ∷ []))
+      → ((zs₀ : List Message) (zs₁ : List Row) (r : Turn) → length zs₀ ≡ n₀ → length zs₁ ≡ n₁ → Is R-Turn r (vals-Turn r) → Turned (last .bench) parse ys₀ ys₁ r zs₀ zs₁ → Seq K W (‵ (Mut R-Message κ₀ b₀ o₀ n₀ γ₀ zs₀) ∷ ‵ (flft κ₀ q₀) ∷ ‵ (Mut R-Row κ₁ b₁ o₁ n₁ γ₁ zs₁) ∷ ‵ (flft κ₁ q₁) ∷ Γ) (lands C Λ E d (val-Turn r) rest p))
+      → Seq K W (‵ (Mut R-Message κ₀ b₀ o₀ n₀ γ₀ ys₀) ∷ ‵ (flft κ₀ q₀) ∷ ‵ (Mut R-Row κ₁ b₁ o₁ n₁ γ₁ ys₁) ∷ ‵ (flft κ₁ q₁) ∷ Γ) (runs C Λ E (seq (call #schedule·one-event xs d) rest) p)
+  calls-one-event t fm mem run known {κ₀} {κ₁} {q₀} {q₁} {γ₀} {γ₁} b₀ o₀ n₀ b₁ o₁ n₁ ys₀ ys₁ e₀ e₁ room₀ room₁ last parse glast gparse h₀ os k =
+      calls-mut2 t fm R-Message R-Row (plain (λ _. R-Turn) ∷ plain (λ _. R-Parse) ∷ []) R-Turn (yes, (yes, tt)) (one-event.clauses 𝓤 H A mem run) known b₀ o₀ n₀ b₁ o₁ n₁ ys₀ ys₁ e₀ e₁ room₀ room₁
+      (λ _ _. (last, (parse, tt))) (λ _ _. (vals-Turn last, (vals-Parse parse, tt)))
+      (λ _ _. owns-make 𝓤 H A (R-Turn ∷ R-Parse ∷ []) (Ises (R-Turn ∷ R-Parse ∷ [])) (makes-Turn 𝓤 H A, (makes-Parse 𝓤 H A, tt)) (last, (parse, tt)) (vals-Turn last, (vals-Parse parse, tt)) (glast, (gparse, tt)))
+      (λ _ _ _ _. tt) (λ _ _ _ _. factI 𝓤 (tabled (last .bench) ys₀ ys₁ ≡ true) (emp 𝓤) h₀)
+      (λ r zs₀ zs₁. Turned (last .bench) parse ys₀ ys₁ r zs₀ zs₁) (λ _ _ _ _ r ws. id⊢ 𝓤 _) (λ _ _. os)
       (λ v r zs₀ zs₁ is len₀ len₁ φ. subst (λ (u : Val). Seq K W (‵ (Mut R-Message κ₀ b₀ o₀ n₀ γ₀ zs₀) ∷ ‵ (flft κ₀ q₀) ∷ ‵ (Mut R-Row κ₁ b₁ o₁ n₁ γ₁ zs₁) ∷ ‵ (flft κ₁ q₁) ∷ Γ) (lands C Λ E d u rest p)) (sym (ap only (tells-Turn r (v ∷ []) is))) (k zs₀ zs₁ r len₀ len₁ (subst (Is R-Turn r) (tells-Turn r (v ∷ []) is) is) φ))

@@ -5,6 +5,7 @@ use mathlib.Core.List.{List}
 use lib.Dec.{eqb}
 use lib.ListN.{length}
 use Rattle.words.specs.declared.Message.{Message}
+use Rattle.words.specs.Limits.{mostFlight, mostRows}
 use Rattle.tables.specs.declared.Row.{Row}
 use Rattle.state.specs.declared.Stepped.{Stepped}
 use Rattle.state.specs.State.{State, fresh, laidMessages, laidRows}
@@ -18,7 +19,7 @@ use Rattle.schedule.specs.Run.{Ran, ran}
 
 -- 18 by the lengths of the two tables, then 1 to 5; 0 if a bench is started
 unfoldable pub openingRefusal : ℕ → ℕ → List ℕ → ℕ
-openingRefusal places history bytes = check (not (eqb places 512 && eqb history 1024)) 18 (fileRefusal bytes)
+openingRefusal places history bytes = check (not (eqb places mostFlight && eqb history mostRows)) 18 (fileRefusal bytes)
 
 abbrev pub opens : ℕ → ℕ → List ℕ → Bool
 opens places history bytes = eqb (openingRefusal places history bytes) 0

@@ -4,7 +4,7 @@ ghost use mathlib.Core.Bool.{true};
 ghost use lib.ListN.{length};
 ghost use Rattle.state.specs.Tabled.{tabled};
 ghost use Rattle.schedule.specs.Opening.{runReply, runMessages, runRows};
-ghost use Rattle.schedule.specs.Turns.{Turned, RanOn};
+ghost use Rattle.schedule.specs.Turns.{isNext, Turned, RanOn};
 use format::Parse;
 use format::events;
 use state::Bench;
@@ -30,17 +30,25 @@ pub struct Turn {
     pub at: usize,
 }
 
-// One turn: an event is carried out, all else stops the run.
-fn one_event(messages: &mut [Message], rows: &mut [Row], bench: Bench, parse: Parse) -> Turn
-    requires { ⌜ tabled bench (now messages) (now rows) ≡ true ⌝ }
+// A turn that is an event.
+fn carry_out(messages: &mut [Message], rows: &mut [Row], bench: Bench, parse: Parse) -> Turn
+    requires { ⌜ (tabled bench (now messages) (now rows) ≡ true) × (isNext parse ≡ true) ⌝ }
     ensures { λ r. ⌜ Turned bench parse (now (messages .entry)) (now (rows .entry)) r (now (messages .exit)) (now (rows .exit)) ⌝ }
 {
-    let next = turns::is_next(parse);
-    if next {
-        let event = turns::event_of(parse);
-        let at = turns::behind(parse);
-        let stepped = advance::advance(&mut *messages, &mut *rows, bench, event);
-        return turns::went_on(stepped, at);
+    let event = turns::event_of(parse);
+    let at = turns::behind(parse);
+    let stepped = advance::advance(&mut *messages, &mut *rows, bench, event);
+    turns::went_on(stepped, at)
+}
+
+// One turn, after what the last one came to: an event is carried out, all else stops the run.
+fn one_event(messages: &mut [Message], rows: &mut [Row], last: Turn, parse: Parse) -> Turn
+    requires { ⌜ tabled (last .bench) (now messages) (now rows) ≡ true ⌝ }
+    ensures { λ r. ⌜ Turned (last .bench) parse (now (messages .entry)) (now (rows .entry)) r (now (messages .exit)) (now (rows .exit)) ⌝ }
+{
+    let bench = turns::bench_in(last);
+    if turns::is_next(parse) {
+        return carry_out(&mut *messages, &mut *rows, bench, parse);
     }
     let number = turns::number_of(parse);
     turns::stop(bench, number)
@@ -61,8 +69,7 @@ pub fn run_events(
     while turns::goes_on(turn) {
         let place = turns::place_in(turn);
         let parse = events::event_at(bytes, place);
-        let held = turns::bench_in(turn);
-        let next = one_event(&mut *messages, &mut *rows, held, parse);
+        let next = one_event(&mut *messages, &mut *rows, turn, parse);
         turn = next;
     }
     turns::ended(turn)

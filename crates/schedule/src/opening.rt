@@ -6,18 +6,15 @@ use bench::fresh::fresh_bench;
 use format::file::file_refusal;
 use state::Bench;
 use state::Stepped;
-
-const MESSAGES: usize = 512;
-
-const ROWS: usize = 1024;
-
-const NOT_FORMED: u8 = 18;
+use words::limits::MESSAGE_PLACES;
+use words::limits::ROW_PLACES;
+use words::refusal::NOT_FORMED;
 
 // The first check that holds, 0 if none does.
 fn opening_refusal(bytes: &[u8], places: usize, history: usize) -> u8
     ensures { λ r. ⌜ r ≡ openingRefusal places history (now (bytes .entry)) ⌝ }
 {
-    if (places == MESSAGES) & (history == ROWS) {
+    if (places == MESSAGE_PLACES) & (history == ROW_PLACES) {
         return file_refusal(bytes);
     }
     NOT_FORMED

@@ -37,7 +37,7 @@ use Rattle.state.specs.declared.Stepped.{Stepped}
 use Rattle.advance.proofs.Steppeds.{R as R-Stepped, val as val-Stepped, vals as vals-Stepped, makes as makes-Stepped}
 use Rattle.tables.proofs.Calls.{calls-ref, calls-plain, Shr}
 use Rattle.figures.specs.Figures.{historyOf, plusHistory}
-use Rattle.figures.specs.Parts.{Few, HistoryRoom, entryOf}
+use Rattle.figures.specs.Parts.{mostWait, Few, HistoryRoom, entryOf}
 use Rattle.figures.proofs.rows.of_no_row as of-no-row
 use Rattle.figures.proofs.rows.of_no_row.Symbol.{name as #figures·rows·of-no-row}
 use Rattle.figures.proofs.rows.of_row as of-row
@@ -87,13 +87,13 @@ module _ {M : Type 1} {𝓤 : URA M} {H : Heap 𝓤} {A : Atoms 𝓤} {K : Type 
   pub calls-of-row : K → FmC 𝓤 H (W .laws) C → (mem : Memory → SProp 𝓤) (run : Routine → Fun 𝓤) → Triple 𝓤 (C #figures·rows·of-row) (OfRow 𝓤 H A mem run)
       → (row : Row) → Is R-Row row (vals-Row row)
       → ((P : SProp 𝓤) → Opds K W (raw P ∷ Γ) E xs (val-Row row ∷ []))
-      → ((r : History) → Is R-History r (vals-History r) → (r ≡ historyOf (row ∷ [])) × Few 65535 r → Seq K W Γ (lands C Λ E d (val-History r) rest p))
+      → ((r : History) → Is R-History r (vals-History r) → (r ≡ historyOf (row ∷ [])) × Few mostWait r → Seq K W Γ (lands C Λ E d (val-History r) rest p))
       → Seq K W Γ (runs C Λ E (seq (call #figures·rows·of-row xs d) rest) p)
   calls-of-row t fm mem run known row grow os k =
       calls-plain t fm (plain (λ _. R-Row) ∷ []) R-History (yes, tt) (of-row.clauses 𝓤 H A mem run) known
       (row, tt) (vals-Row row, tt)
       (owns-make 𝓤 H A (R-Row ∷ []) (Ises (R-Row ∷ [])) (makes-Row 𝓤 H A, tt) (row, tt) (vals-Row row, tt) (grow, tt))
-      tt (id⊢ 𝓤 _) (λ r. (r ≡ historyOf (row ∷ [])) × Few 65535 r) (λ r ws. id⊢ 𝓤 _) os
+      tt (id⊢ 𝓤 _) (λ r. (r ≡ historyOf (row ∷ [])) × Few mostWait r) (λ r ws. id⊢ 𝓤 _) os
       (λ v r is φ. subst (λ (u : Val). Seq K W Γ (lands C Λ E d u rest p)) (sym (ap only (tells-History r (v ∷ []) is))) (k r (subst (Is R-History r) (tells-History r (v ∷ []) is) is) φ))
 
   -- ---- `plus_history(a, b)`

@@ -18,8 +18,7 @@ use replaying::run_history;
 use tables::Row;
 use tables::empty_row;
 use tables::row_at;
-
-const ROWS: usize = 1024;
+use words::limits::ROW_PLACES;
 
 // What the first rows of a history come to.
 fn count_rows(rows: &[Row], used: u16) -> History
@@ -41,7 +40,7 @@ fn count_rows(rows: &[Row], used: u16) -> History
 fn count_file(bytes: &[u8]) -> Entry
     ensures { λ r. ⌜ r ≡ addedBy (now (bytes .entry)) ⌝ }
 {
-    let mut rows = [empty_row(); ROWS];
+    let mut rows = [empty_row(); ROW_PLACES];
     let ran = run_history(&mut rows, bytes);
     let used = rows_of(ran);
     let history = count_rows(&rows, used);

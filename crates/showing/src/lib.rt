@@ -8,6 +8,7 @@ ghost use Rattle.buffer.specs.Printing.{printReply, printLeft, Fronts};
 ghost use Rattle.writing.specs.Reading.{readOut};
 ghost use Rattle.showing.specs.Shown.{readingText, shown};
 use buffer::Printed;
+use buffer::SHORT_OUTPUT;
 use format::Parse;
 use format::events::event_at;
 use format::file::file_refusal;
@@ -20,8 +21,6 @@ pub const LONGEST_TEXT: usize = 393216;
 
 // Bytes before the first event.
 const HEAD: usize = 7;
-
-const SHORT_OUTPUT: u8 = 19;
 
 // The lines of the events, read to the end, or to bytes that are no event.
 fn put_reading(buf: &mut [u8], at: usize, bytes: &[u8]) -> usize

@@ -44,7 +44,7 @@ Run = RunBy step
 
 abbrev pub isQuerying : Phase → Bool
 isQuerying Idle = false
-isQuerying (Querying row best) = true
+isQuerying (Querying row gathered) = true
 isQuerying (Updating row sent) = false
 
 -- with the sender the repliers are a majority

@@ -12,8 +12,11 @@ use Rattle.words.specs.declared.Body.the-variants.{Query, Response, Update, Ack
 use Rattle.words.specs.declared.Message.{Message}
 use Rattle.words.specs.declared.Pair.{Pair}
 use Rattle.replica.specs.declared.Answer.{Answer}
-use Rattle.replica.specs.declared.Counts.{Counts}
-use Rattle.replica.specs.declared.Counts.the-variants.{Not, For}
+use Rattle.replica.specs.declared.Gathered.{Gathered}
+use Rattle.replica.specs.declared.ResponseCounts.{ResponseCounts}
+use Rattle.replica.specs.declared.ResponseCounts.the-variants.{Not, For}
+use Rattle.replica.specs.declared.AckCounts.{AckCounts}
+use Rattle.replica.specs.declared.AckCounts.the-variants.{Not as NoAck, For as AckFor}
 use Rattle.replica.specs.declared.Phase.{Phase}
 use Rattle.replica.specs.declared.Phase.the-variants.{Idle, Querying, Updating}
 use Rattle.replica.specs.declared.Replica.{Replica}
@@ -56,26 +59,26 @@ module _ (n : ℕ) (r : Replica) (message : Message) where
   unfolding responseRule responseCounted
   response-sends x pair = by-phase (r .phase)
     where
-      sentIf : Counts → ℕ
+      sentIf : ResponseCounts → ℕ
       sentIf counts = sentBy n (responseTaken counts r n x (message .from) (message .time) pair .sends)
 
-      by-number : (row : ℕ) (best : Pair) (same : Bool) → sentIf (cond same (For row best) Not) ≡ cond (same && makesMajority n r message) n 0
-      by-number row best true = ap-cond (λ (a : Answer). sentBy n (a .sends)) (makesMajority n r message) _ _
-      by-number row best false = refl
+      by-number : (row : ℕ) (gathered : Gathered) (same : Bool) → sentIf (cond same (For row gathered) Not) ≡ cond (same && makesMajority n r message) n 0
+      by-number row gathered true = ap-cond (λ (a : Answer). sentBy n (a .sends)) (makesMajority n r message) _ _
+      by-number row gathered false = refl
 
       by-phase : (phase : Phase)
           → sentIf (responseCounts phase (r .rid) (message .rid)) ≡ cond (isQuerying phase && eqb (message .rid .0) (r .rid .0) && makesMajority n r message) n 0
       by-phase Idle = refl
-      by-phase (Querying row best) = by-number row best (eqb (message .rid .0) (r .rid .0))
+      by-phase (Querying row gathered) = by-number row gathered (eqb (message .rid .0) (r .rid .0))
       by-phase (Updating row sent) = refl
 
   ack-sends : sentBy n (ackRule r n (message .from) (message .time) (message .rid) .sends) ≡ 0
   unfolding ackRule ackCounted
   ack-sends = by-count (ackCounts (r .phase) (r .rid) (message .rid))
     where
-      by-count : (counts : Counts) → sentBy n (ackTaken counts r n (message .from) (message .time) .sends) ≡ 0
-      by-count Not = refl
-      by-count (For row sent) = either-way (λ (a : Answer). sentBy n (a .sends) ≡ 0) (makesMajority n r message) _ _ refl refl
+      by-count : (counts : AckCounts) → sentBy n (ackTaken counts r n (message .from) (message .time) .sends) ≡ 0
+      by-count NoAck = refl
+      by-count (AckFor row sent) = either-way (λ (a : Answer). sentBy n (a .sends) ≡ 0) (makesMajority n r message) _ _ refl refl
 
 receipt-sends : (s : State) (r : Replica) (message : Message) (body : Body)
     → sentBy (s .n) (ruleBy s r message body .sends) ≡ sentOnReceipt (s .n) r message body

@@ -11,6 +11,7 @@ use Rattle.words.specs.declared.Body.{Body}
 use Rattle.words.specs.declared.Body.the-variants.{Query, Response, Update, Ack}
 use Rattle.words.specs.declared.Message.{Message}
 use Rattle.words.specs.declared.Pair.{Pair}
+use Rattle.words.specs.Limits.{mostTime, mostRid}
 use Rattle.words.specs.Ranges.{within, pairFits, senderFits}
 use Rattle.words.specs.RangeLaws.{and-left, and-right, inside-fit, inside-wider}
 use Rattle.replica.specs.declared.Phase.{Phase}
@@ -29,13 +30,13 @@ use Rattle.state.specs.PairLaws.{Within, within-ok, ok-within, pair-wide
 use Rattle.state.specs.PendingLaws.{pending-within}
 use Rattle.state.specs.WellLaws.{MessageOk, message-at, PhaseOk, Well, stored-at, asked-at}
 
--- the ranges of the bench lie in those of a handler
+-- the ranges of the bench lie in those of a handler, whose times go on where a bench has ended
 within-wider : (x a b : ℕ) → a ≤ b → Within x a → within x b ≡ true
 within-wider x a b l h = ok-within {most = b} (record { least = h .least; most = omega (arith, h .most) })
 
 module _ (s : State) (w : Well s) where
-  pair-inside : (pair : Pair) → pairFits (s .accepted) (s .n) pair ≡ true → pairFits 12000 7 pair ≡ true
-  pair-inside pair e = pair-wider (s .accepted) 12000 (s .n) 7 pair (w .events) (w .processes .most) e
+  pair-inside : (pair : Pair) → pairFits (s .accepted) (s .n) pair ≡ true → pairFits mostTime 7 pair ≡ true
+  pair-inside pair e = pair-wider (s .accepted) mostTime (s .n) 7 pair (omega (arith, w .events)) (w .processes .most) e
 
   register-inside : (x : ℕ) → Within x (s .m) → within x 16 ≡ true
   register-inside x h = within-wider x (s .m) 16 (w .registers .most) h
@@ -43,22 +44,22 @@ module _ (s : State) (w : Well s) where
   -- the bench's own processes, or more
   sender-inside : (n : ℕ) → s .n ≤ n → (x : Message) → MessageOk s x → senderFits n (x .from) (x .time) (x .rid) ≡ true
   sender-inside n l x k =
-      both (both (within-wider (x .from .0) (s .n) n l (k .sender)) (le-leb (x .time .0) 12000 (omega (arith, k .time, w .events))))
-      (le-leb (x .rid .0) 24000 (omega (arith, k .rid, w .events)))
+      both (both (within-wider (x .from .0) (s .n) n l (k .sender)) (le-leb (x .time .0) mostTime (omega (arith, k .time, w .events))))
+      (le-leb (x .rid .0) mostRid (omega (arith, k .rid, w .events)))
 
   module _ (short : length (s .rows) ≤ 1024) (p : ℕ) (actor : Within p (s .n)) where
     phase-inside : (phase : Phase) (repliers : ℕ) → PhaseOk s p phase repliers → phaseInside phase ≡ true
     phase-inside Idle repliers o = refl
-    phase-inside (Querying row best) repliers o =
-        both (within-wider row (length (s .rows)) 1024 short (pending-within p row (s .rows) (o .0))) (pair-inside best (o .2))
+    phase-inside (Querying row gathered) repliers o =
+        both (within-wider row (length (s .rows)) 1024 short (pending-within p row (s .rows) (o .0))) (pair-inside (gathered .best) (o .2))
     phase-inside (Updating row sent) repliers o =
         both (within-wider row (length (s .rows)) 1024 short (pending-within p row (s .rows) (o .0))) (pair-inside sent (o .1))
 
     pub replica-inside : (n : ℕ) → s .n ≤ n → replicaInside n (replicaOf s p) ≡ true
     replica-inside n l =
         let o = w .replica p actor in
-        let a = le-leb (replicaOf s p .clock .0) 12000 (omega (arith, o .clock, w .events)) in
-        let b = le-leb (replicaOf s p .rid .0) 24000 (omega (arith, o .rid, w .events)) in
+        let a = le-leb (replicaOf s p .clock .0) mostTime (omega (arith, o .clock, w .events)) in
+        let b = le-leb (replicaOf s p .rid .0) mostRid (omega (arith, o .rid, w .events)) in
         both (both (both a b) (inside-fit n (replicaOf s p .repliers) (inside-wider (s .n) n (replicaOf s p .repliers) l (o .inside))))
         (phase-inside (replicaOf s p .phase) (replicaOf s p .repliers) (o .phase))
 
@@ -100,7 +101,7 @@ module _ (s : State) (w : Well s) (short : length (s .rows) ≤ 1024) (p : ℕ) 
 
     asked-inside : (phase : Phase) (repliers : ℕ) → PhaseOk s p phase repliers → within (askedRegister s phase) 16 ≡ true
     asked-inside Idle repliers o = refl
-    asked-inside (Querying row best) repliers o = register-inside s w _ (asked-at s w p row (o .0))
+    asked-inside (Querying row gathered) repliers o = register-inside s w _ (asked-at s w p row (o .0))
     asked-inside (Updating row sent) repliers o = refl
 
     pub query-plain : (y : ℕ) → Within y (s .m)

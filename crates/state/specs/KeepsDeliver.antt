@@ -16,7 +16,7 @@ use Rattle.words.specs.Quorum.{joined, counted, majorityOf}
 use Rattle.words.specs.Ranges.{within, pairFits}
 use Rattle.words.specs.RangeLaws.{and-left, and-right}
 use Rattle.replica.specs.declared.Answer.{Answer}
-use Rattle.replica.specs.declared.Counts.the-variants.{Not, For}
+use Rattle.replica.specs.declared.AckCounts.the-variants.{Not as NoAck, For as AckFor}
 use Rattle.replica.specs.declared.Ended.the-variants.{Pending, At}
 use Rattle.replica.specs.declared.Phase.{Phase}
 use Rattle.replica.specs.declared.Phase.the-variants.{Idle, Querying, Updating}
@@ -205,10 +205,10 @@ module _ (s : State) (w : Well s) (room : s .accepted < 12000) (i : ℕ) (inside
         go : (phase : Phase) → PhaseOk s p phase (replicaOf s p .repliers)
             → Takes (pointed phase) (ackTaken (ackCounts phase (replicaOf s p .rid) (x .rid)) (replicaOf s p) (s .n) (x .from) (x .time))
         go Idle o = nothing 0
-        go (Querying row best) o = nothing row
+        go (Querying row gathered) o = nothing row
         go (Updating row sent) o = case (eqb (x .rid .0) (replicaOf s p .rid .0))
           where
-            case : (b : Bool) → Takes row (ackTaken (cond b (For row sent) Not) (replicaOf s p) (s .n) (x .from) (x .time))
+            case : (b : Bool) → Takes row (ackTaken (cond b (AckFor row sent) NoAck) (replicaOf s p) (s .n) (x .from) (x .time))
             case true = ack-counted row sent o
             case false = nothing row
 

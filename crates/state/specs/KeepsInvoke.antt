@@ -12,12 +12,13 @@ use borrow.Author.Tests.{eq-eqb, ne-eqb}
 use Rattle.words.specs.declared.Body.{Body}
 use Rattle.words.specs.declared.Body.the-variants.{Query, Update}
 use Rattle.words.specs.declared.Pair.{Pair}
-use Rattle.words.specs.Stamps.{stampOf, startPair}
+use Rattle.words.specs.Stamps.{stampOf}
 use Rattle.words.specs.Ranges.{pairFits}
 use Rattle.replica.specs.declared.Answer.{Answer}
 use Rattle.replica.specs.declared.Ended.the-variants.{Pending}
 use Rattle.replica.specs.declared.Phase.{Phase}
 use Rattle.replica.specs.declared.Phase.the-variants.{Idle, Querying, Updating}
+use Rattle.replica.specs.Gathering.{nothingGathered}
 use Rattle.replica.specs.Handlers.{accepted, broadcastOf, isIdle, readRule, writeRule, became as placed}
 use Rattle.tables.specs.declared.Row.{Row}
 use Rattle.tables.specs.Tables.{emptyRow}
@@ -34,7 +35,7 @@ use Rattle.state.specs.WellLaws.{RowOk, ok-row, PhaseOk, ReplicaOk, Well
 
 idle-none : (s : State) (p : ℕ) (phase : Phase) (repliers : ℕ) → isIdle phase ≡ true → PhaseOk s p phase repliers → pendingOf p 1 (s .rows) ≡ []
 idle-none s p Idle repliers e o = o .0
-idle-none s p (Querying row best) repliers e o = absurd (false≢true e)
+idle-none s p (Querying row gathered) repliers e o = absurd (false≢true e)
 idle-none s p (Updating row sent) repliers e o = absurd (false≢true e)
 
 -- ---- one row more
@@ -111,7 +112,7 @@ module _ (s : State) (w : Well s) (p x : ℕ) (i : Invoked s p x) where
   read-well : Well (readNext s p x)
   unfolding readRule
   read-well =
-      begun-well (Querying (length (s .rows) + 1) startPair) (Query x) row (both (eq-eqb p p refl) refl) refl
+      begun-well (Querying (length (s .rows) + 1) nothingGathered) (Query x) row (both (eq-eqb p p refl) refl) refl
       (record {
         process = i .actor;
         register = i .register;

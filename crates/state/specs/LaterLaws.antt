@@ -96,8 +96,8 @@ module _ (s t : State) (l : Later s t) where
   -- the row that a replica points to is one of the rows
   phase-later : (p : ℕ) → Kept s t p → (phase : Phase) (repliers : ℕ) → PhaseOk s p phase repliers → PhaseOk t p phase repliers
   phase-later p k Idle repliers o = (k .pending ∙ o .0, o .1)
-  phase-later p k (Querying row best) repliers o =
-      (k .pending ∙ o .0, ap isWrite (k .kinds row (pending-within p row (s .rows) (o .0))) ∙ o .1, pair-later best (o .2))
+  phase-later p k (Querying row gathered) repliers o =
+      (k .pending ∙ o .0, ap isWrite (k .kinds row (pending-within p row (s .rows) (o .0))) ∙ o .1, pair-later (gathered .best) (o .2))
   phase-later p k (Updating row sent) repliers o = (k .pending ∙ o .0, pair-later sent (o .1))
 
   pub replica-later : (p : ℕ) → Kept s t p → (r : Replica) → ReplicaOk s p r → ReplicaOk t p r

@@ -15,7 +15,8 @@ use Rattle.words.specs.QuorumLaws.{inside-empty, joined-inside, counted-empty}
 use Rattle.words.specs.Ranges.{pairFits}
 use Rattle.words.specs.Stamps.{newer}
 use Rattle.replica.specs.declared.Answer.{Answer}
-use Rattle.replica.specs.declared.Counts.the-variants.{Not, For}
+use Rattle.replica.specs.declared.Gathered.{Gathered}
+use Rattle.replica.specs.declared.ResponseCounts.the-variants.{Not, For}
 use Rattle.replica.specs.declared.Ended.the-variants.{Pending}
 use Rattle.replica.specs.declared.Phase.{Phase}
 use Rattle.replica.specs.declared.Phase.the-variants.{Idle, Querying, Updating}
@@ -23,6 +24,7 @@ use Rattle.replica.specs.declared.Sends.the-variants.{Nothing}
 use Rattle.replica.specs.Clock.{after}
 use Rattle.replica.specs.ClockLaws.{after-least}
 use Rattle.replica.specs.Handlers.{accepted, broadcastOf, stored, discarded, became as placed}
+use Rattle.replica.specs.Gathering.{gatheredWith}
 use Rattle.replica.specs.Handlers.{queryRule, updateRule, responseCounts, responseCounted, responseTaken, responseRule}
 use Rattle.state.specs.State.{State, replicaOf, rowOf}
 use Rattle.state.specs.Step.{askedRegister}
@@ -144,23 +146,23 @@ module _ (s : State) (w : Well s) (p : ℕ) (actor : Within p (s .n)) (x : Messa
 
   -- ---- a response
 
-  counted-quiet : (row : ℕ) (best : Pair) → PhaseOk (ahead s) p (Querying row best) 0
-      → Quiet s p (responseCounted (replicaOf s p) (s .n) (rowOf s row .register) (x .from) (x .time) row best)
+  counted-quiet : (row : ℕ) (gathered : Gathered) → PhaseOk (ahead s) p (Querying row gathered) 0
+      → Quiet s p (responseCounted (replicaOf s p) (s .n) (rowOf s row .register) (x .from) (x .time) row gathered)
   unfolding responseCounted
-  counted-quiet row best o = go (leb (majorityOf (s .n)) (counted (joined (replicaOf s p .repliers) (x .from .0)))) refl
+  counted-quiet row gathered o = go (leb (majorityOf (s .n)) (counted (joined (replicaOf s p .repliers) (x .from .0)))) refl
     where
       time : ℕ
       time = after (replicaOf s p .clock .0) (x .time .0)
 
       go : (b : Bool) → leb (majorityOf (s .n)) (counted (joined (replicaOf s p .repliers) (x .from .0))) ≡ b
           → Quiet s p (cond b
-          (accepted (placed (replicaOf s p) time (replicaOf s p .rid .0 + 1) (Updating row best) 0 (replicaOf s p .pairs))
-          (broadcastOf time (replicaOf s p .rid .0 + 1) (Update (rowOf s row .register) best)) Pending)
-          (accepted (placed (replicaOf s p) time (replicaOf s p .rid .0) (Querying row best) (joined (replicaOf s p .repliers) (x .from .0)) (replicaOf s p .pairs))
+          (accepted (placed (replicaOf s p) time (replicaOf s p .rid .0 + 1) (Updating row (gathered .best)) 0 (replicaOf s p .pairs))
+          (broadcastOf time (replicaOf s p .rid .0 + 1) (Update (rowOf s row .register) (gathered .best))) Pending)
+          (accepted (placed (replicaOf s p) time (replicaOf s p .rid .0) (Querying row gathered) (joined (replicaOf s p .repliers) (x .from .0)) (replicaOf s p .pairs))
           Nothing Pending))
       go true e =
           record {
-            own = own-emptied (ahead s) (record { same-n = refl; same-m = refl; more = omega arith }) (Updating row best) (o .0, o .2);
+            own = own-emptied (ahead s) (record { same-n = refl; same-m = refl; more = omega arith }) (Updating row (gathered .best)) (o .0, o .2);
             sends =
                 record {
                   time = received-clock;
@@ -169,7 +171,7 @@ module _ (s : State) (w : Well s) (p : ℕ) (actor : Within p (s .n)) (x : Messa
                 };
             ended = refl;
           }
-      go false e = record { own = own-joined (Querying row best) o e; sends = tt; ended = refl }
+      go false e = record { own = own-joined (Querying row gathered) o e; sends = tt; ended = refl }
 
   pub response-quiet : (pair : Pair) → pairFits (s .accepted) (s .n) pair ≡ true
       → Quiet s p (responseRule (replicaOf s p) (s .n) (askedRegister s (replicaOf s p .phase)) (x .from) (x .time) (x .rid) pair)
@@ -179,11 +181,11 @@ module _ (s : State) (w : Well s) (p : ℕ) (actor : Within p (s .n)) (x : Messa
       go : (phase : Phase) → PhaseOk (ahead s) p phase (replicaOf s p .repliers)
           → Quiet s p (responseTaken (responseCounts phase (replicaOf s p .rid) (x .rid)) (replicaOf s p) (s .n) (askedRegister s phase) (x .from) (x .time) pair)
       go Idle o = discarded-quiet
-      go (Querying row best) o = case (eqb (x .rid .0) (replicaOf s p .rid .0))
+      go (Querying row gathered) o = case (eqb (x .rid .0) (replicaOf s p .rid .0))
         where
-          case : (b : Bool) → Quiet s p (responseTaken (cond b (For row best) Not) (replicaOf s p) (s .n) (rowOf s row .register) (x .from) (x .time) pair)
+          case : (b : Bool) → Quiet s p (responseTaken (cond b (For row gathered) Not) (replicaOf s p) (s .n) (rowOf s row .register) (x .from) (x .time) pair)
           case true =
-              counted-quiet row (newer best pair)
-              (o .0, o .1, pair-newer (s .accepted + 1) (s .n) best pair (o .2) (pair-later s (ahead s) (ahead-later s) pair f))
+              counted-quiet row (gatheredWith gathered pair)
+              (o .0, o .1, pair-newer (s .accepted + 1) (s .n) (gathered .best) pair (o .2) (pair-later s (ahead s) (ahead-later s) pair f))
           case false = discarded-quiet
       go (Updating row sent) o = discarded-quiet

@@ -5,6 +5,7 @@ use mathlib.Core.Bool.{Bool, true, false, cond}
 use mathlib.Core.List.{List, [], _∷_, _++_}
 use lib.ListN.{length, getD, set, replicate, take}
 use Rattle.words.specs.declared.Message.{Message}
+use Rattle.words.specs.Limits.{mostFlight, mostRows}
 use Rattle.words.specs.Stamps.{startPair}
 use Rattle.replica.specs.declared.Replica.{Replica}
 use Rattle.replica.specs.declared.Phase.the-variants.{Idle}
@@ -77,7 +78,7 @@ view b messages rows =
 
 -- the tables that hold a state: 512 messages, 1,024 rows
 abbrev pub laidMessages : State → List Message
-laidMessages s = s .flight ++ replicate (512 - length (s .flight)) emptyMessage
+laidMessages s = s .flight ++ replicate (mostFlight - length (s .flight)) emptyMessage
 
 abbrev pub laidRows : State → List Row
-laidRows s = s .rows ++ replicate (1024 - length (s .rows)) emptyRow
+laidRows s = s .rows ++ replicate (mostRows - length (s .rows)) emptyRow

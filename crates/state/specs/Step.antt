@@ -12,7 +12,9 @@ use Rattle.words.specs.declared.Body.{Body}
 use Rattle.words.specs.declared.Body.the-variants.{Query, Response, Update, Ack}
 use Rattle.words.specs.declared.Pid.{Pid}
 use Rattle.words.specs.declared.Pair.{Pair}
+use Rattle.words.specs.declared.Stamp.{Stamp}
 use Rattle.words.specs.declared.Time.{Time}
+use Rattle.words.specs.Limits.{mostEvents, mostFlight, mostRows}
 use Rattle.words.specs.Ranges.{within}
 use Rattle.words.specs.Stamps.{stampOf, startStamp}
 use Rattle.replica.specs.declared.Answer.{Answer}
@@ -59,30 +61,25 @@ posted s from Nothing = []
 posted s from (Reply to letter) = copies (messageOf (s .sent + 1) from (to .0) letter) 1
 posted s from (Broadcast letter) = copies (messageOf (s .sent + 1) from 1 letter) (s .n)
 
--- a write's stamp and value stand from its invocation, a pending read has stamp (0, 0) and value 0
-abbrev pub readRow : ℕ → ℕ → ℕ → Row
-readRow p x clock =
+-- a row at its invocation, which is pending
+abbrev pub begunRow : ℕ → Kind → ℕ → ℕ → Stamp → ℤ → Row
+begunRow p kind x clock stamp value =
     record {
       process = record { 0 = p };
-      kind = ReadKind;
+      kind = kind;
       register = x;
       invoked = record { 0 = clock };
       answered = record { 0 = 0 };
-      stamp = startStamp;
-      value = pos 0;
-    }
-
-abbrev pub writeRow : ℕ → ℕ → ℤ → ℕ → Row
-writeRow p x value clock =
-    record {
-      process = record { 0 = p };
-      kind = WriteKind;
-      register = x;
-      invoked = record { 0 = clock };
-      answered = record { 0 = 0 };
-      stamp = stampOf clock p;
+      stamp = stamp;
       value = value;
     }
+
+-- a write's stamp and value stand from its invocation, a pending read has stamp (0, 0) and value 0
+abbrev pub readRow : ℕ → ℕ → ℕ → Row
+readRow p x clock = begunRow p ReadKind x clock startStamp (pos 0)
+
+abbrev pub writeRow : ℕ → ℕ → ℤ → ℕ → Row
+writeRow p x value clock = begunRow p WriteKind x clock (stampOf clock p) value
 
 -- what an operation of a kind gives that ended with this pair: a read the chosen value, with its stamp; a write only "done"
 abbrev pub given : Kind → Pair → Option Pair
@@ -150,11 +147,11 @@ abbrev pub check : Bool → ℕ → ℕ → ℕ
 check holds number later = cond holds number later
 
 abbrev pub full : State → Bool
-full s = leb 12000 (s .accepted)
+full s = leb mostEvents (s .accepted)
 
 -- messages in flight would pass 512
 abbrev pub noRoom : ℕ → Bool
-noRoom flight = ltb 512 flight
+noRoom flight = ltb mostFlight flight
 
 abbrev pub invokeRefusal : State → ℕ → ℕ → ℕ → ℕ
 invokeRefusal s p x later =
@@ -163,7 +160,7 @@ invokeRefusal s p x later =
     (check (not (within x (s .m))) 9
     (check (replicaOf s p .crashed) 10
     (check (not (isIdle (replicaOf s p .phase))) 11
-    (check (leb 1024 (length (s .rows))) 16
+    (check (leb mostRows (length (s .rows))) 16
     (check (noRoom (length (s .flight) + s .n)) 15 later))))))
 
 -- no such message in flight
@@ -190,7 +187,7 @@ outcome s number next = record { refusal = number; state = cond (eqb number 0) n
 -- the register that a querying replica asks for; any other asks for none, and 1 stands in
 abbrev pub askedRegister : State → Phase → ℕ
 askedRegister s Idle = 1
-askedRegister s (Querying row best) = rowOf s row .register
+askedRegister s (Querying row gathered) = rowOf s row .register
 askedRegister s (Updating row sent) = 1
 
 abbrev pub heardBy : State → Replica → Message → Body → Answer

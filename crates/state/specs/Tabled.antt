@@ -8,6 +8,7 @@ use lib.ListN.{length, drop}
 use Rattle.words.specs.declared.Body.{Body}
 use Rattle.words.specs.declared.Body.the-variants.{Query, Response, Update, Ack}
 use Rattle.words.specs.declared.Message.{Message}
+use Rattle.words.specs.Limits.{mostFlight, mostRows}
 use Rattle.words.specs.Ranges.{isZero}
 use Rattle.tables.specs.declared.Row.{Row}
 use Rattle.state.specs.declared.Bench.{Bench}
@@ -33,11 +34,11 @@ isEmptyRow r =
 
 -- a lent table has exactly the stated length
 abbrev pub lengthsFit : List Message → List Row → Bool
-lengthsFit messages rows = eqb (length messages) 512 && eqb (length rows) 1024
+lengthsFit messages rows = eqb (length messages) mostFlight && eqb (length rows) mostRows
 
 unfoldable pub tabled : Bench → List Message → List Row → Bool
 tabled b messages rows =
-    lengthsFit messages rows && leb (b .flight) 512 && leb (b .rows) 1024 && every isEmptyMessage (drop (b .flight) messages)
+    lengthsFit messages rows && leb (b .flight) mostFlight && leb (b .rows) mostRows && every isEmptyMessage (drop (b .flight) messages)
     && every isEmptyRow (drop (b .rows) rows) && wellFormed (view b messages rows)
 
 -- the bench that holds a state, beside its tables

@@ -10,6 +10,7 @@ use Rattle.words.specs.declared.Body.{Body}
 use Rattle.words.specs.declared.Body.the-variants.{Query, Response, Update, Ack}
 use Rattle.words.specs.declared.Message.{Message}
 use Rattle.words.specs.declared.Pair.{Pair}
+use Rattle.words.specs.Limits.{mostEvents}
 use Rattle.words.specs.Quorum.{counted, majorityOf}
 use Rattle.words.specs.Ranges.{within, isZero, pairFits, repliersFit}
 use Rattle.replica.specs.declared.Phase.{Phase}
@@ -28,7 +29,7 @@ every p (a ∷ rest) = p a && every p rest
 -- N and M in range; accepted events at most 12,000; messages sent at most 7 times it, and equal to delivered plus lost plus in flight
 unfoldable pub countsFit : State → Bool
 countsFit s =
-    within (s .n) 7 && within (s .m) 16 && leb (s .accepted) 12000 && leb (s .sent) (7 * s .accepted)
+    within (s .n) 7 && within (s .m) 16 && leb (s .accepted) mostEvents && leb (s .sent) (7 * s .accepted)
     && eqb (s .sent) (s .delivered + s .lost + length (s .flight))
 
 -- ---- messages: times and request numbers, senders and recipients 1..N, registers 1..M, pairs; numbers rising, from 1 to the count sent
@@ -84,8 +85,8 @@ isOnly row (i ∷ rest) = eqb i row && isEmpty rest
 -- a waiting replica points to the only pending row of its own, a read's if it is querying; an idle one has none and an empty set
 abbrev pub phaseFits : State → ℕ → Phase → ℕ → Bool
 phaseFits s p Idle repliers = isEmpty (pendingOf p 1 (s .rows)) && eqb repliers 0
-phaseFits s p (Querying row best) repliers =
-    isOnly row (pendingOf p 1 (s .rows)) && not (isWrite (rowOf s row .kind)) && pairFits (s .accepted) (s .n) best
+phaseFits s p (Querying row gathered) repliers =
+    isOnly row (pendingOf p 1 (s .rows)) && not (isWrite (rowOf s row .kind)) && pairFits (s .accepted) (s .n) (gathered .best)
 phaseFits s p (Updating row sent) repliers = isOnly row (pendingOf p 1 (s .rows)) && pairFits (s .accepted) (s .n) sent
 
 abbrev pub isStart : Pair → Bool

@@ -103,8 +103,8 @@ module _ (s : State) (r : Row) where
 
 abbrev pub PhaseOk : State → ℕ → Phase → ℕ → Type 0
 PhaseOk s p Idle repliers = (pendingOf p 1 (s .rows) ≡ []) × (repliers ≡ 0)
-PhaseOk s p (Querying row best) repliers =
-    (pendingOf p 1 (s .rows) ≡ row ∷ []) × (isWrite (rowOf s row .kind) ≡ false) × (pairFits (s .accepted) (s .n) best ≡ true)
+PhaseOk s p (Querying row gathered) repliers =
+    (pendingOf p 1 (s .rows) ≡ row ∷ []) × (isWrite (rowOf s row .kind) ≡ false) × (pairFits (s .accepted) (s .n) (gathered .best) ≡ true)
 PhaseOk s p (Updating row sent) repliers = (pendingOf p 1 (s .rows) ≡ row ∷ []) × (pairFits (s .accepted) (s .n) sent ≡ true)
 
 empty-ok : (l : List ℕ) → isEmpty l ≡ true → l ≡ []
@@ -129,10 +129,10 @@ module _ (s : State) (p : ℕ) where
   phase-ok Idle repliers e =
       let a : Bool = isEmpty (pendingOf p 1 (s .rows)) in
       (empty-ok _ (and-left a (eqb repliers 0) e), eqb-true repliers 0 (and-right a (eqb repliers 0) e))
-  phase-ok (Querying row best) repliers e =
+  phase-ok (Querying row gathered) repliers e =
       let a : Bool = isOnly row (pendingOf p 1 (s .rows)) in
       let b : Bool = not (isWrite (rowOf s row .kind)) in
-      let c : Bool = pairFits (s .accepted) (s .n) best in
+      let c : Bool = pairFits (s .accepted) (s .n) (gathered .best) in
       let f : (a && b) ≡ true = and-left (a && b) c e in
       (only-ok row _ (and-left a b f), not-true _ (and-right a b f), and-right (a && b) c e)
   phase-ok (Updating row sent) repliers e =
@@ -142,7 +142,7 @@ module _ (s : State) (p : ℕ) where
 
   ok-phase : (phase : Phase) (repliers : ℕ) → PhaseOk s p phase repliers → phaseFits s p phase repliers ≡ true
   ok-phase Idle repliers k = both (ok-empty _ (k .0)) (eq-eqb repliers 0 (k .1))
-  ok-phase (Querying row best) repliers k = both (both (ok-only row _ (k .0)) (ap not (k .1))) (k .2)
+  ok-phase (Querying row gathered) repliers k = both (both (ok-only row _ (k .0)) (ap not (k .1))) (k .2)
   ok-phase (Updating row sent) repliers k = both (ok-only row _ (k .0)) (k .1)
 
 -- ---- a replica

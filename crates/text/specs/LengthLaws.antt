@@ -50,7 +50,7 @@ ended : AtMost 1 (newline ∷ [])
 ended = record { most = omega arith }
 
 -- the numbers of a pair that fits
-fits-time : (a n : ℕ) (p : Pair) → pairFits a n p ≡ true → p .stamp .time .0 ≤ a
+pub fits-time : (a n : ℕ) (p : Pair) → pairFits a n p ≡ true → p .stamp .time .0 ≤ a
 fits-time a n p e =
     let time : ℕ = p .stamp .time .0 in
     let process : ℕ = p .stamp .process .0 in

@@ -4,12 +4,14 @@ ghost use mathlib.Core.List.{_++_};
 ghost use lib.ListN.{length};
 ghost use Rattle.text.specs.Lines.{runText, stateText, procText, countText};
 ghost use Rattle.text.specs.Printed.{number, printedRefusal};
+ghost use Rattle.text.specs.Short.{Short};
 ghost use Rattle.text.specs.Written.{Wrote};
 use crate::bytes::NEWLINE;
 use crate::bytes::put_byte;
 use crate::bytes::put_word;
 use crate::numbers::put_number;
 use crate::numbers::put_small;
+use crate::numbers::put_time;
 
 pub fn put_refusal(buf: &mut [u8], at: usize, refusal: u8) -> usize
     requires { ⌜ at + 14 ≤ length (now buf) ⌝ }
@@ -42,13 +44,13 @@ fn put_state(buf: &mut [u8], at: usize, crashed: bool) -> usize
     put_word(&mut *buf, at, b" up")
 }
 
-pub fn put_proc_line(buf: &mut [u8], at: usize, p: u8, clock: u16, crashed: bool) -> usize
-    requires { ⌜ at + 22 ≤ length (now buf) ⌝ }
+pub fn put_proc_line(buf: &mut [u8], at: usize, p: u8, clock: u32, crashed: bool) -> usize
+    requires { ⌜ (at + 22 ≤ length (now buf)) × Short clock ⌝ }
     ensures { λ r. ⌜ Wrote at (procText p clock crashed) 22 (now (buf .entry)) (now (buf .exit)) r ⌝ }
 {
     let a = put_word(&mut *buf, at, b"proc");
     let b = put_small(&mut *buf, a, p as u16);
-    let c = put_small(&mut *buf, b, clock);
+    let c = put_time(&mut *buf, b, clock);
     let d = put_state(&mut *buf, c, crashed);
     put_byte(&mut *buf, d, NEWLINE)
 }

@@ -5,6 +5,7 @@ ghost use lib.IntN.{natAbs};
 ghost use lib.ListN.{length};
 ghost use Rattle.text.specs.Digits.{places, lastDigits};
 ghost use Rattle.text.specs.Printed.{decimal, number, signed, field};
+ghost use Rattle.text.specs.Short.{Short};
 ghost use Rattle.text.specs.Written.{Wrote};
 use crate::bytes::put_byte;
 
@@ -59,6 +60,15 @@ pub fn put_small(buf: &mut [u8], at: usize, n: u16) -> usize
 {
     let next = put_byte(&mut *buf, at, 32);
     put_decimal(&mut *buf, next, n as u64)
+}
+
+// A space, and a time, which has at most five digits.
+pub fn put_time(buf: &mut [u8], at: usize, time: u32) -> usize
+    requires { ⌜ (at + 6 ≤ length (now buf)) × Short time ⌝ }
+    ensures { λ r. ⌜ Wrote at (number time) 6 (now (buf .entry)) (now (buf .exit)) r ⌝ }
+{
+    let next = put_byte(&mut *buf, at, 32);
+    put_decimal(&mut *buf, next, time as u64)
 }
 
 // A value without its sign. The smallest one has none in its own type.

@@ -2,6 +2,7 @@
 ghost use Prim.Native.Nat.{_+_, _*_, _≤_};
 ghost use lib.ListN.{length};
 ghost use Rattle.text.specs.Printed.{regLine, regLines};
+ghost use Rattle.text.specs.Short.{Short, ShortPairs};
 ghost use Rattle.text.specs.Written.{Wrote};
 use crate::bytes::NEWLINE;
 use crate::bytes::put_byte;
@@ -13,7 +14,7 @@ use words::Pair;
 
 // Nothing where the stamp time is 0.
 pub fn put_reg_line(buf: &mut [u8], at: usize, p: u8, x: u8, pair: Pair) -> usize
-    requires { ⌜ at + 49 ≤ length (now buf) ⌝ }
+    requires { ⌜ (at + 49 ≤ length (now buf)) × Short (pair .stamp .time .0) ⌝ }
     ensures { λ r. ⌜ Wrote at (regLine p x pair) 49 (now (buf .entry)) (now (buf .exit)) r ⌝ }
 {
     if pair.stamp.time.0 == 0 {
@@ -28,7 +29,7 @@ pub fn put_reg_line(buf: &mut [u8], at: usize, p: u8, x: u8, pair: Pair) -> usiz
 
 // Registers 1 to m of one process.
 pub fn put_reg_lines(buf: &mut [u8], at: usize, replica: Replica, p: u8, m: u8) -> usize
-    requires { ⌜ (m ≤ 16) × (at + 49 * m ≤ length (now buf)) ⌝ }
+    requires { ⌜ (m ≤ 16) × ((at + 49 * m ≤ length (now buf)) × ShortPairs m (replica .pairs)) ⌝ }
     ensures { λ r. ⌜ Wrote at (regLines replica p 1 m) (49 * m) (now (buf .entry)) (now (buf .exit)) r ⌝ }
 {
     let pairs = replica.pairs;

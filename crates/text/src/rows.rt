@@ -5,11 +5,13 @@ ghost use lib.ListN.{length};
 ghost use mathlib.Core.List.{[], _∷_};
 ghost use Rattle.text.specs.Lines.{pairText, isBlank, rowHead, rowRest};
 ghost use Rattle.text.specs.Printed.{field, dash, letterOf, answered, ending, rowLine};
+ghost use Rattle.text.specs.Short.{Short, ShortRow};
 ghost use Rattle.text.specs.Written.{Wrote};
 use crate::bytes::NEWLINE;
 use crate::bytes::put_byte;
 use crate::bytes::put_word;
 use crate::numbers::put_small;
+use crate::numbers::put_time;
 use crate::numbers::put_value;
 use tables::Kind;
 use tables::Row;
@@ -34,26 +36,26 @@ fn put_letter(buf: &mut [u8], at: usize, kind: Kind) -> usize
 }
 
 pub fn put_pair(buf: &mut [u8], at: usize, stamp: Stamp, value: i64) -> usize
-    requires { ⌜ at + 33 ≤ length (now buf) ⌝ }
+    requires { ⌜ (at + 33 ≤ length (now buf)) × Short (stamp .time .0) ⌝ }
     ensures { λ r. ⌜ Wrote at (pairText stamp value) 33 (now (buf .entry)) (now (buf .exit)) r ⌝ }
 {
-    let a = put_small(&mut *buf, at, stamp.time.0);
+    let a = put_time(&mut *buf, at, stamp.time.0);
     let b = put_small(&mut *buf, a, stamp.process.0 as u16);
     put_value(&mut *buf, b, value)
 }
 
-fn put_answered(buf: &mut [u8], at: usize, time: u16) -> usize
-    requires { ⌜ at + 6 ≤ length (now buf) ⌝ }
+fn put_answered(buf: &mut [u8], at: usize, time: u32) -> usize
+    requires { ⌜ (at + 6 ≤ length (now buf)) × Short time ⌝ }
     ensures { λ r. ⌜ Wrote at (answered time) 6 (now (buf .entry)) (now (buf .exit)) r ⌝ }
 {
     if time == 0 {
         return put_dash(&mut *buf, at);
     }
-    put_small(&mut *buf, at, time)
+    put_time(&mut *buf, at, time)
 }
 
 // A read that is pending.
-fn is_blank(kind: Kind, time: u16) -> bool
+fn is_blank(kind: Kind, time: u32) -> bool
     ensures { λ r. ⌜ r ≡ isBlank kind time ⌝ }
 {
     match kind {
@@ -63,7 +65,7 @@ fn is_blank(kind: Kind, time: u16) -> bool
 }
 
 fn put_ending(buf: &mut [u8], at: usize, row: Row) -> usize
-    requires { ⌜ at + 33 ≤ length (now buf) ⌝ }
+    requires { ⌜ (at + 33 ≤ length (now buf)) × Short (row .stamp .time .0) ⌝ }
     ensures { λ r. ⌜ Wrote at (ending (row .kind) (row .answered .0) row) 33 (now (buf .entry)) (now (buf .exit)) r ⌝ }
 {
     let kind = row.kind;
@@ -84,18 +86,18 @@ fn put_row_head(buf: &mut [u8], at: usize, number: u16, process: u8, kind: Kind)
 }
 
 fn put_row_rest(buf: &mut [u8], at: usize, row: Row) -> usize
-    requires { ⌜ at + 52 ≤ length (now buf) ⌝ }
+    requires { ⌜ (at + 52 ≤ length (now buf)) × ShortRow row ⌝ }
     ensures { λ r. ⌜ Wrote at (rowRest row) 52 (now (buf .entry)) (now (buf .exit)) r ⌝ }
 {
     let a = put_small(&mut *buf, at, row.register as u16);
-    let b = put_small(&mut *buf, a, row.invoked.0);
+    let b = put_time(&mut *buf, a, row.invoked.0);
     let c = put_answered(&mut *buf, b, row.answered.0);
     let d = put_ending(&mut *buf, c, row);
     put_byte(&mut *buf, d, NEWLINE)
 }
 
 pub fn put_row_line(buf: &mut [u8], at: usize, number: u16, row: Row) -> usize
-    requires { ⌜ at + 68 ≤ length (now buf) ⌝ }
+    requires { ⌜ (at + 68 ≤ length (now buf)) × ShortRow row ⌝ }
     ensures { λ r. ⌜ Wrote at (rowLine number row) 68 (now (buf .entry)) (now (buf .exit)) r ⌝ }
 {
     let kind = row.kind;

@@ -8,6 +8,7 @@ ghost use Rattle.verdicts.specs.Verdict.{sized, laid, rowsFrom, zeros};
 use crate::numbers::half_at;
 use crate::numbers::wide;
 use crate::numbers::word_at;
+use words::limits::ROW_PLACES;
 
 const SHORTEST: usize = 9;
 
@@ -27,7 +28,7 @@ pub const ROW_SIZE: usize = 12;
 pub const NUMBER_SIZE: usize = 2;
 
 // At most so many rows, and so many row numbers.
-const MOST: usize = 1024;
+const MOST: usize = ROW_PLACES;
 
 // Where a row has its kind, its register, its value and its mark of completion; its process comes first.
 pub const KIND: usize = 1;

@@ -1,4 +1,5 @@
 -- What a reader has to believe
+pub mod Limits
 pub mod Quorum
 pub mod Ranges
 pub mod Stamps

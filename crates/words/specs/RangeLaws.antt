@@ -11,6 +11,7 @@ use Rattle.words.specs.declared.Pid.{Pid}
 use Rattle.words.specs.declared.Rid.{Rid}
 use Rattle.words.specs.declared.Time.{Time}
 use Rattle.words.specs.QuorumLaws.{Inside}
+use Rattle.words.specs.Limits.{mostTime}
 use Rattle.words.specs.Ranges.{within, senderFits, repliersFit}
 
 pub and-left : (a b : Bool) → (a && b) ≡ true → a ≡ true
@@ -41,7 +42,7 @@ module _ (n : ℕ) (from : Pid) (time : Time) (rid : Rid) (fits : senderFits n f
   pub sender-within : within (from .0) n ≡ true
   sender-within = and-left _ _ (and-left _ _ fits)
 
-  pub sender-time : time .0 ≤ 12000
+  pub sender-time : time .0 ≤ mostTime
   sender-time = leb-true _ _ (and-right (within (from .0) n) _ (and-left _ _ fits))
 
 -- ---- a replier set inside 1..n, as a test and as a fact

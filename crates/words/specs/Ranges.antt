@@ -1,4 +1,4 @@
--- Document 01's ranges, of one number, stamp, pair, envelope or replier set.
+-- The ranges of one number, stamp, pair, envelope or replier set.
 use Prim.Native.Nat.{ℕ, zero, suc, _+_, _%_, _^_}
 use mathlib.Core.Bool.{Bool, true, false, not, _&&_, _||_, Bool·beq}
 use lib.Dec.{leb, ltb, eqb}
@@ -8,6 +8,7 @@ use Rattle.words.specs.declared.Pair.{Pair}
 use Rattle.words.specs.declared.Pid.{Pid}
 use Rattle.words.specs.declared.Rid.{Rid}
 use Rattle.words.specs.declared.Time.{Time}
+use Rattle.words.specs.Limits.{mostTime, mostRid}
 
 abbrev pub isZero : ℤ → Bool
 isZero (pos n) = eqb n 0
@@ -27,7 +28,7 @@ pairFits limit n p = stampFits limit n (p .stamp) && (not (eqb (p .stamp .time .
 
 -- the envelope of a message that was received, from one of n processes
 abbrev pub senderFits : ℕ → Pid → Time → Rid → Bool
-senderFits n from time rid = within (from .0) n && leb (time .0) 12000 && leb (rid .0) 24000
+senderFits n from time rid = within (from .0) n && leb (time .0) mostTime && leb (rid .0) mostRid
 
 -- a replier set inside 1..n: bit 0 is no process, and no bit above n is set
 abbrev pub repliersFit : ℕ → ℕ → Bool

@@ -2,14 +2,12 @@
 ghost use mathlib.Core.Path.{_≡_};
 ghost use lib.Dec.{leb};
 ghost use Rattle.words.specs.Quorum.{member, joined, counted, majorityOf};
-
-// The greatest process number.
-const LAST: u8 = 7;
+use crate::limits::PROCESSES;
 
 pub fn has(repliers: u8, process: u8) -> bool
     ensures { λ r. ⌜ r ≡ member repliers process ⌝ }
 {
-    if LAST < process {
+    if PROCESSES < process {
         return false;
     }
     (repliers >> process) % 2 == 1
@@ -18,7 +16,7 @@ pub fn has(repliers: u8, process: u8) -> bool
 pub fn with(repliers: u8, process: u8) -> u8
     ensures { λ r. ⌜ r ≡ joined repliers process ⌝ }
 {
-    if LAST < process {
+    if PROCESSES < process {
         return repliers;
     }
     repliers | (1u8 << process)

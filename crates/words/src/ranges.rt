@@ -1,23 +1,18 @@
-// Document 01's ranges, of one number, stamp, pair, envelope or replier set.
+// The ranges of one number, stamp, pair, envelope or replier set.
 ghost use mathlib.Core.Path.{_≡_};
 ghost use Prim.Native.Nat.{_+_, _^_};
 ghost use lib.Dec.{ltb};
 ghost use Rattle.words.specs.Ranges.{within, isZero, stampFits, pairFits, senderFits, repliersFit};
+ghost use Rattle.words.specs.Limits.{mostRows};
 use crate::Pair;
 use crate::Pid;
 use crate::Rid;
 use crate::Stamp;
 use crate::Time;
-
-pub const EVENTS: u16 = 12000;
-
-pub const REQUESTS: u16 = 24000;
-
-pub const PROCESSES: u8 = 7;
-
-pub const REGISTERS: u8 = 16;
-
-pub const ROWS: u16 = 1024;
+use crate::limits::MOST_RID;
+use crate::limits::MOST_TIME;
+use crate::limits::PROCESSES;
+use crate::limits::ROWS;
 
 // A number from 1 to `most`.
 pub fn is_within(x: u8, most: u8) -> bool
@@ -27,13 +22,13 @@ pub fn is_within(x: u8, most: u8) -> bool
 }
 
 pub fn row_fits(row: u16) -> bool
-    ensures { λ r. ⌜ r ≡ within row 1024 ⌝ }
+    ensures { λ r. ⌜ r ≡ within row mostRows ⌝ }
 {
     (row != 0) & (row <= ROWS)
 }
 
 // A time of at most `limit`; process 0 exactly when the time is 0, and otherwise 1 to `n`.
-pub fn stamp_fits(s: Stamp, limit: u16, n: u8) -> bool
+pub fn stamp_fits(s: Stamp, limit: u32, n: u8) -> bool
     ensures { λ r. ⌜ r ≡ stampFits limit n s ⌝ }
 {
     let time = s.time.0;
@@ -48,7 +43,7 @@ fn is_zero(value: i64) -> bool
 }
 
 // A stamp that fits, and with the time 0 the value 0.
-pub fn pair_fits(p: Pair, limit: u16, n: u8) -> bool
+pub fn pair_fits(p: Pair, limit: u32, n: u8) -> bool
     ensures { λ r. ⌜ r ≡ pairFits limit n p ⌝ }
 {
     let stamp = p.stamp;
@@ -60,7 +55,7 @@ pub fn pair_fits(p: Pair, limit: u16, n: u8) -> bool
 pub fn sender_fits(n: u8, from: Pid, time: Time, rid: Rid) -> bool
     ensures { λ r. ⌜ r ≡ senderFits n from time rid ⌝ }
 {
-    is_within(from.0, n) & (time.0 <= EVENTS) & (rid.0 <= REQUESTS)
+    is_within(from.0, n) & (time.0 <= MOST_TIME) & (rid.0 <= MOST_RID)
 }
 
 // No bit above `n` is set.

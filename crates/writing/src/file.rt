@@ -10,10 +10,14 @@ ghost use Rattle.writing.specs.Bytes.{wordBytes};
 ghost use Rattle.writing.specs.Writing.{writeRefusal, filed};
 use crate::Filed;
 use crate::numbers::put_four;
+use buffer::SHORT_OUTPUT;
 use buffer::bytes::put_byte;
-use words::ranges::PROCESSES;
-use words::ranges::REGISTERS;
+use words::limits::PROCESSES;
+use words::limits::REGISTERS;
 use words::ranges::is_within;
+use words::refusal::NO_PROCESSES;
+use words::refusal::NO_REGISTERS;
+use words::refusal::WRONG_SIZE;
 
 const LONGEST: usize = 65536;
 
@@ -21,15 +25,6 @@ const VERSION: u8 = 1;
 
 // Bytes of the length field, which counts those that follow it.
 const LENGTH_SIZE: usize = 4;
-
-// Document 01's numbers of refusal, and document 02's.
-const WRONG_SIZE: u8 = 1;
-
-const NO_PROCESSES: u8 = 4;
-
-const NO_REGISTERS: u8 = 5;
-
-const SHORT_OUTPUT: u8 = 19;
 
 // The first that holds is given.
 fn first(holds: bool, number: u8, later: u8) -> u8

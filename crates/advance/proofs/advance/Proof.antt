@@ -1,5 +1,5 @@
 -- Written by tools/walks/walkgen.py from advance.py beside it: change that.
--- `advance::advance` meets its contract: a walk of its MIR. Gather, decide, carry; that it is `step` is the law `Advances`.
+-- `advance::advance` meets its contract: a walk of its MIR. The messages are asked, and the rest pursued.
 -- Assumes nothing.
 use mathlib.Core.Path.{_≡_, refl}
 use Prim.Native.Nat.{ℕ, _-_}
@@ -39,19 +39,16 @@ use Rattle.tables.specs.declared.Row.{Row}
 use Rattle.tables.proofs.Messages.{R}
 use Rattle.tables.proofs.Rows.{R as R₂}
 use Rattle.tables.proofs.Calls.{Mut, slice}
-use Rattle.advance.proofs.Callees.{Asks, Learns, Acts, calls-ask, calls-learn, calls-act}
+use Rattle.advance.proofs.Callees.{Asks, Pursues, calls-ask, calls-pursue}
 use Rattle.advance.proofs.ask.Symbol as ask-def
 use Rattle.advance.proofs.ask.Symbol.{name as #advance·ask}
 use Rattle.advance.proofs.ask.Met as ask-thm
-use Rattle.advance.proofs.learn.Symbol as learn-def
-use Rattle.advance.proofs.learn.Symbol.{name as #advance·learn}
-use Rattle.advance.proofs.learn.Met as learn-thm
-use Rattle.advance.proofs.act.Symbol as act-def
-use Rattle.advance.proofs.act.Symbol.{name as #advance·act}
-use Rattle.advance.proofs.act.Met as act-thm
+use Rattle.advance.proofs.pursue.Symbol as pursue-def
+use Rattle.advance.proofs.pursue.Symbol.{name as #advance·pursue}
+use Rattle.advance.proofs.pursue.Met as pursue-thm
 use Rattle.state.specs.Tabled.{tabled}
 use Rattle.advance.specs.Advanced.{Advanced}
-use Rattle.advance.specs.Advances.{bounded, flight-within, ready, done as steps}
+use Rattle.advance.specs.Advances.{bounded, flight-within}
 use Rattle.advance.proofs.advance.Key.{name as #advance·advance}
 use Rattle.advance.proofs.advance as advance
 use Rattle.advance.proofs.advance.Statement as stated
@@ -61,7 +58,6 @@ use Rattle.state.specs.declared.Bench.{Bench}
 use Rattle.advance.proofs.Benches.{R as R-Bench, val as val-Bench, vals as vals-Bench, tells as tells-Bench, typed as typed-Bench}
 use Rattle.state.specs.declared.Event.{Event}
 use Rattle.advance.proofs.Events.{R as R-Event, val as val-Event, vals as vals-Event, tells as tells-Event, typed as typed-Event}
-use Rattle.advance.proofs.Knowns.{typed as typed-Known}
 use Rattle.state.specs.declared.Stepped.{Stepped}
 use Rattle.advance.proofs.Steppeds.{R as R-Stepped, val as val-Stepped, vals as vals-Stepped, typed as typed-Stepped, makes as makes-Stepped}
 
@@ -93,41 +89,37 @@ module _ {M : Type 1} (𝓤 : URA M) (H : Heap 𝓤) (A : Atoms 𝓤) (W : Given
       suffices ! _ (ends-at 𝓤 H A advance.ended stayed (advance.clauses 𝓤 H A mem run) W (((κ₀, (κ₁, tt)), (q₀, (q₁, tt)), tt, a, at), tt) (val-Stepped r) r (ms, (rs, (tt, (tt, tt)))) (len₀, (len₁, (tt, (tt, tt))))) $ says ! e $
       nothing ! $ move ! (4 ∷ 0 ∷ []) $ join ! $ move ! (2 ∷ 0 ∷ []) $ join ! $ frame ! $ move ! (1 ∷ 2 ∷ []) $ fjoin ! $ move ! (1 ∷ 0 ∷ []) $ fjoin ! $ frame ! $ owned ! R-Stepped (Is R-Stepped) (makes-Stepped 𝓤 H A) r _ is $ done !
 
-  module _ (C : Calls 𝓤 H) (Λ : Loops 𝓤 H) (fm : FmC 𝓤 H (W .laws) C) (ask-known : Triple 𝓤 (C #advance·ask) (Asks 𝓤 H A mem run)) (learn-known : Triple 𝓤 (C #advance·learn) (Learns 𝓤 H A mem run)) (act-known : Triple 𝓤 (C #advance·act) (Acts 𝓤 H A mem run)) where
+  module _ (C : Calls 𝓤 H) (Λ : Loops 𝓤 H) (fm : FmC 𝓤 H (W .laws) C) (ask-known : Triple 𝓤 (C #advance·ask) (Asks 𝓤 H A mem run)) (pursue-known : Triple 𝓤 (C #advance·pursue) (Pursues 𝓤 H A mem run)) where
     walk : Room R n₀ → Room R₂ n₁ → Is R-Bench bench (vals-Bench bench) → Is R-Event event (vals-Event event) → tabled bench ys₀ ys₁ ≡ true → ent 𝓤 (onEntry 𝓤 H A advance.signature (κ₀, (κ₁, tt)) (q₀, (q₁, tt)) a at) (WpFn 𝓤 H C Λ code.function (sliceVal (b₀, o₀) n₀ ∷ sliceVal (b₁, o₁) n₁ ∷ val-Bench bench ∷ val-Event event ∷ []) Post)
     walk gn₀ gn₁ gbench gevent h₀ =
         qed W ((‵ (flft κ₀ q₀) ⊛ (‵ (flft κ₁ q₁) ⊛ ‵ ftrue)) ∷ ‵ (owns (MutSlice (named 0) κ₀ R ∷ MutSlice (named 1) κ₁ R₂ ∷ R-Bench ∷ R-Event ∷ []) a at) ∷ []) ∵ enter ! C Λ code.function (sliceVal (b₀, o₀) n₀ ∷ sliceVal (b₁, o₁) n₁ ∷ val-Bench bench ∷ val-Event event ∷ []) _ $
-        alloc1 ! (λ l₀. alloc1 ! (λ l₁. alloc1 ! (λ l₂. alloc1 ! (λ l₃. alloc1 ! (λ l₄. alloc1 ! (λ l₅. alloc1 ! (λ l₆. alloc1 ! (λ l₇. alloc1 ! (λ l₈. alloc1 ! (λ l₉. alloc1 ! (λ l₁₀. alloc1 ! (λ l₁₁. alloc1 ! (λ l₁₂. alloc1 ! (λ l₁₃. alloc1 ! (λ l₁₄. alloc0 ! $ params1 ! $
-        pass1 ! (init ! 26 refl (tt, (tt, (record { fits = gn₀ .0 }, tt)))) $ pass1 ! (init ! 24 refl (tt, (tt, (record { fits = gn₁ .0 }, tt)))) $ pass1 ! (init ! 22 refl (typed-Bench 𝓤 H A W bench gbench)) $ pass1 ! (init ! 20 refl (typed-Event 𝓤 H A W event gevent)) $ pass0 ! $
-        move ! (31 ∷ 30 ∷ []) $ fsplit ! $ move ! (1 ∷ []) $ fsplit ! $ move ! (3 ∷ []) $ split ! $ move ! (1 ∷ []) $ split ! $ move ! (5 ∷ 2 ∷ 3 ∷ []) $
-        -- [the first slice; its token; the second; its token; true; what the others own; _14 (6); …; _13 (8); …; _12 (10); …; _11 (12); …; _10 (14); …; _9 (16); …; _8 (18); …; _7 (20); …; _6 (22); …; _5 (24); …; _4 (26); …; _3 (28); …; _2 (30); …; _1 (32); …; _0 (34); …]
-        assigns ! (addr ! (from ! (fld ! refl (hop ! (look-in ! 32 (sub ! 0 refl (whole !))) (stop !))))) (from ! (stop !)) (init ! 20 refl (tt, tt)) $
-        assigns ! (agg ! (and-then ! (load ! (from ! (stop !)) (look ! 20 refl)) (and-then ! (load ! (from ! (fld ! refl (stop !))) (look-in ! 32 (sub ! 1 refl (whole !)))) (no-more !)))) (from ! (stop !)) (init ! 18 refl (tt, (tt, (record { fits = gn₀ .0 }, tt)))) $
-        calls-ask ! fm mem run ask-known b₀ o₀ n₀ ys₀ refl gn₀ bench event gbench gevent (flight-within bench event ys₀ ys₁ h₀) (bounded bench event ys₀ ys₁ h₀ .replicas) (λ P L. and-then ! (load ! (from ! (stop !)) (look ! 18 refl)) (and-then ! (load ! (from ! (stop !)) (look ! 28 refl)) (and-then ! (load ! (from ! (stop !)) (look ! 26 refl)) (no-more !)))) (λ a₀ ga₀ ea.
-        land ! (from ! (stop !)) (init ! 24 refl (typed-Asked 𝓤 H A W a₀ ga₀)) $
-        assigns ! (addr ! (from ! (fld ! refl (hop ! (look-in ! 30 (sub ! 0 refl (whole !))) (stop !))))) (from ! (stop !)) (init ! 16 refl (tt, tt)) $
-        assigns ! (agg ! (and-then ! (load ! (from ! (stop !)) (look ! 16 refl)) (and-then ! (load ! (from ! (fld ! refl (stop !))) (look-in ! 30 (sub ! 1 refl (whole !)))) (no-more !)))) (from ! (stop !)) (init ! 14 refl (tt, (tt, (record { fits = gn₁ .0 }, tt)))) $
-        move ! (2 ∷ 3 ∷ []) $ calls-learn ! fm mem run learn-known b₁ o₁ n₁ ys₁ refl gn₁ a₀ ga₀ (λ P L. and-then ! (load ! (from ! (stop !)) (look ! 14 refl)) (and-then ! (load ! (from ! (stop !)) (look ! 24 refl)) (no-more !))) (λ k gk ek. move ! (2 ∷ 3 ∷ []) $
-        land ! (from ! (stop !)) (init ! 22 refl (typed-Known 𝓤 H A W k gk)) $
-        assigns ! (addr ! (from ! (fld ! refl (hop ! (look-in ! 32 (sub ! 0 refl (whole !))) (stop !))))) (from ! (stop !)) (init ! 12 refl (tt, tt)) $
-        assigns ! (agg ! (and-then ! (load ! (from ! (stop !)) (look ! 12 refl)) (and-then ! (load ! (from ! (fld ! refl (stop !))) (look-in ! 32 (sub ! 1 refl (whole !)))) (no-more !)))) (from ! (stop !)) (init ! 10 refl (tt, (tt, (record { fits = gn₀ .0 }, tt)))) $
-        assigns ! (addr ! (from ! (fld ! refl (hop ! (look-in ! 30 (sub ! 0 refl (whole !))) (stop !))))) (from ! (stop !)) (init ! 8 refl (tt, tt)) $
-        assigns ! (agg ! (and-then ! (load ! (from ! (stop !)) (look ! 8 refl)) (and-then ! (load ! (from ! (fld ! refl (stop !))) (look-in ! 30 (sub ! 1 refl (whole !)))) (no-more !)))) (from ! (stop !)) (init ! 6 refl (tt, (tt, (record { fits = gn₁ .0 }, tt)))) $
-        calls-act ! fm mem run act-known b₀ o₀ n₀ b₁ o₁ n₁ ys₀ ys₁ refl refl gn₀ gn₁ bench event k gbench gevent gk (bounded bench event ys₀ ys₁ h₀) (ready bench event ys₀ ys₁ h₀ a₀ k ea ek) (λ P L₁ L₀ T. and-then ! (load ! (from ! (stop !)) (look ! 10 refl)) (and-then ! (load ! (from ! (stop !)) (look ! 6 refl)) (and-then ! (load ! (from ! (stop !)) (look ! 28 refl)) (and-then ! (load ! (from ! (stop !)) (look ! 26 refl)) (and-then ! (load ! (from ! (stop !)) (look ! 22 refl)) (no-more !)))))) (λ ms rs r len₀ len₁ gr er e₀ e₁.
-        land ! (from ! (stop !)) (init ! 34 refl (typed-Stepped 𝓤 H A W r gr)) $
-        returns ! (look ! 34 refl) $ forget ! 6 refl $ forget ! 8 refl $ forget ! 10 refl $ forget ! 12 refl $ forget ! 14 refl $ forget ! 16 refl $ forget ! 18 refl $ forget ! 20 refl $ forget ! 22 refl $ forget ! 24 refl $ forget ! 26 refl $ forget ! 28 refl $ forget ! 30 refl $ forget ! 32 refl $ forget ! 34 refl $
-        move ! (34 ∷ 35 ∷ []) $ free1 ! $ move ! (32 ∷ 33 ∷ []) $ free1 ! $ move ! (30 ∷ 31 ∷ []) $ free1 ! $ move ! (28 ∷ 29 ∷ []) $ free1 ! $ move ! (26 ∷ 27 ∷ []) $ free1 ! $ move ! (24 ∷ 25 ∷ []) $ free1 ! $ move ! (22 ∷ 23 ∷ []) $ free1 ! $ move ! (20 ∷ 21 ∷ []) $ free1 ! $ move ! (18 ∷ 19 ∷ []) $ free1 ! $ move ! (16 ∷ 17 ∷ []) $ free1 ! $ move ! (14 ∷ 15 ∷ []) $ free1 ! $ move ! (12 ∷ 13 ∷ []) $ free1 ! $ move ! (10 ∷ 11 ∷ []) $ free1 ! $ move ! (8 ∷ 9 ∷ []) $ free1 ! $ move ! (6 ∷ 7 ∷ []) $ free1 ! $ free0 ! $
-        keep ! (0 ∷ 1 ∷ 2 ∷ 3 ∷ 5 ∷ []) $ by ! (exits r gr ms rs len₀ len₁ (steps bench event ys₀ ys₁ h₀ a₀ k ea ek r ms rs er e₀ e₁))))))))))))))))))))
+        alloc1 ! (λ l₀. alloc1 ! (λ l₁. alloc1 ! (λ l₂. alloc1 ! (λ l₃. alloc1 ! (λ l₄. alloc1 ! (λ l₅. alloc1 ! (λ l₆. alloc1 ! (λ l₇. alloc1 ! (λ l₈. alloc1 ! (λ l₉. alloc1 ! (λ l₁₀. alloc1 ! (λ l₁₁. alloc0 ! $ params1 ! $
+        pass1 ! (init ! 20 refl (tt, (tt, (record { fits = gn₀ .0 }, tt)))) $ pass1 ! (init ! 18 refl (tt, (tt, (record { fits = gn₁ .0 }, tt)))) $ pass1 ! (init ! 16 refl (typed-Bench 𝓤 H A W bench gbench)) $ pass1 ! (init ! 14 refl (typed-Event 𝓤 H A W event gevent)) $ pass0 ! $
+        move ! (25 ∷ 24 ∷ []) $ fsplit ! $ move ! (1 ∷ []) $ fsplit ! $ move ! (3 ∷ []) $ split ! $ move ! (1 ∷ []) $ split ! $ move ! (5 ∷ 2 ∷ 3 ∷ []) $
+        -- [the first slice; its token; the second; its token; true; what the others own; _11 (6); …; _10 (8); …; _9 (10); …; _8 (12); …; _7 (14); …; _6 (16); …; _5 (18); …; _4 (20); …; _3 (22); …; _2 (24); …; _1 (26); …; _0 (28); …]
+        assigns ! (addr ! (from ! (fld ! refl (hop ! (look-in ! 26 (sub ! 0 refl (whole !))) (stop !))))) (from ! (stop !)) (init ! 16 refl (tt, tt)) $
+        assigns ! (agg ! (and-then ! (load ! (from ! (stop !)) (look ! 16 refl)) (and-then ! (load ! (from ! (fld ! refl (stop !))) (look-in ! 26 (sub ! 1 refl (whole !)))) (no-more !)))) (from ! (stop !)) (init ! 14 refl (tt, (tt, (record { fits = gn₀ .0 }, tt)))) $
+        calls-ask ! fm mem run ask-known b₀ o₀ n₀ ys₀ refl gn₀ bench event gbench gevent (flight-within bench event ys₀ ys₁ h₀) (bounded bench event ys₀ ys₁ h₀ .replicas) (λ P L. and-then ! (load ! (from ! (stop !)) (look ! 14 refl)) (and-then ! (load ! (from ! (stop !)) (look ! 22 refl)) (and-then ! (load ! (from ! (stop !)) (look ! 20 refl)) (no-more !)))) (λ a₀ ga₀ ea.
+        land ! (from ! (stop !)) (init ! 18 refl (typed-Asked 𝓤 H A W a₀ ga₀)) $
+        assigns ! (addr ! (from ! (fld ! refl (hop ! (look-in ! 26 (sub ! 0 refl (whole !))) (stop !))))) (from ! (stop !)) (init ! 12 refl (tt, tt)) $
+        assigns ! (agg ! (and-then ! (load ! (from ! (stop !)) (look ! 12 refl)) (and-then ! (load ! (from ! (fld ! refl (stop !))) (look-in ! 26 (sub ! 1 refl (whole !)))) (no-more !)))) (from ! (stop !)) (init ! 10 refl (tt, (tt, (record { fits = gn₀ .0 }, tt)))) $
+        assigns ! (addr ! (from ! (fld ! refl (hop ! (look-in ! 24 (sub ! 0 refl (whole !))) (stop !))))) (from ! (stop !)) (init ! 8 refl (tt, tt)) $
+        assigns ! (agg ! (and-then ! (load ! (from ! (stop !)) (look ! 8 refl)) (and-then ! (load ! (from ! (fld ! refl (stop !))) (look-in ! 24 (sub ! 1 refl (whole !)))) (no-more !)))) (from ! (stop !)) (init ! 6 refl (tt, (tt, (record { fits = gn₁ .0 }, tt)))) $
+        calls-pursue ! fm mem run pursue-known b₀ o₀ n₀ b₁ o₁ n₁ ys₀ ys₁ refl refl gn₀ gn₁ bench event a₀ gbench gevent ga₀ h₀ ea (λ P L₁ L₀ T. and-then ! (load ! (from ! (stop !)) (look ! 10 refl)) (and-then ! (load ! (from ! (stop !)) (look ! 6 refl)) (and-then ! (load ! (from ! (stop !)) (look ! 22 refl)) (and-then ! (load ! (from ! (stop !)) (look ! 20 refl)) (and-then ! (load ! (from ! (stop !)) (look ! 18 refl)) (no-more !)))))) (λ ms rs r len₀ len₁ gr e.
+        land ! (from ! (stop !)) (init ! 28 refl (typed-Stepped 𝓤 H A W r gr)) $
+        returns ! (look ! 28 refl) $ forget ! 6 refl $ forget ! 8 refl $ forget ! 10 refl $ forget ! 12 refl $ forget ! 14 refl $ forget ! 16 refl $ forget ! 18 refl $ forget ! 20 refl $ forget ! 22 refl $ forget ! 24 refl $ forget ! 26 refl $ forget ! 28 refl $
+        move ! (28 ∷ 29 ∷ []) $ free1 ! $ move ! (26 ∷ 27 ∷ []) $ free1 ! $ move ! (24 ∷ 25 ∷ []) $ free1 ! $ move ! (22 ∷ 23 ∷ []) $ free1 ! $ move ! (20 ∷ 21 ∷ []) $ free1 ! $ move ! (18 ∷ 19 ∷ []) $ free1 ! $ move ! (16 ∷ 17 ∷ []) $ free1 ! $ move ! (14 ∷ 15 ∷ []) $ free1 ! $ move ! (12 ∷ 13 ∷ []) $ free1 ! $ move ! (10 ∷ 11 ∷ []) $ free1 ! $ move ! (8 ∷ 9 ∷ []) $ free1 ! $ move ! (6 ∷ 7 ∷ []) $ free1 ! $ free0 ! $
+        keep ! (0 ∷ 1 ∷ 2 ∷ 3 ∷ 5 ∷ []) $ by ! (exits r gr ms rs len₀ len₁ e)))))))))))))))
 
 module _ {M : Type 1} (𝓤 : URA M) (H : Heap 𝓤) (A : Atoms 𝓤) (W : Given 𝓤 H A) (mem : Memory → SProp 𝓤) (run : Routine → Fun 𝓤) where
-  advance-walks : (C : Calls 𝓤 H) (Λ : Loops 𝓤 H) → FmC 𝓤 H (W .laws) C → Triple 𝓤 (C #advance·ask) (Asks 𝓤 H A mem run) → Triple 𝓤 (C #advance·learn) (Learns 𝓤 H A mem run) → Triple 𝓤 (C #advance·act) (Acts 𝓤 H A mem run) → Walks 𝓤 H A advance.ended stayed (WpFn 𝓤 H C Λ code.function) (advance.clauses 𝓤 H A mem run)
-  advance-walks C Λ fm k₀ k₁ k₂ = walked 𝓤 H A advance.ended stayed (advance.clauses 𝓤 H A mem run) (WpFn 𝓤 H C Λ code.function) (λ κs. (slice-vals, (slice-vals, (vals-Bench, (vals-Event, tt))))) (λ κs. (mut-slice-tells (named 0) (κs .0) R, (mut-slice-tells (named 1) (κs .1 .0) R₂, (tells-Bench, (tells-Event, tt)))))
+  advance-walks : (C : Calls 𝓤 H) (Λ : Loops 𝓤 H) → FmC 𝓤 H (W .laws) C → Triple 𝓤 (C #advance·ask) (Asks 𝓤 H A mem run) → Triple 𝓤 (C #advance·pursue) (Pursues 𝓤 H A mem run) → Walks 𝓤 H A advance.ended stayed (WpFn 𝓤 H C Λ code.function) (advance.clauses 𝓤 H A mem run)
+  advance-walks C Λ fm k₀ k₁ = walked 𝓤 H A advance.ended stayed (advance.clauses 𝓤 H A mem run) (WpFn 𝓤 H C Λ code.function) (λ κs. (slice-vals, (slice-vals, (vals-Bench, (vals-Event, tt))))) (λ κs. (mut-slice-tells (named 0) (κs .0) R, (mut-slice-tells (named 1) (κs .1 .0) R₂, (tells-Bench, (tells-Event, tt)))))
       (λ κs qs bounds a g are. needs 𝓤 (tabled (a .1 .1 .0) (now (a .0)) (now (a .1 .0)) ≡ true) _ (λ l.
-      walk 𝓤 H A W mem run (κs .0) (κs .1 .0) (qs .0) (qs .1 .0) (a .0 .ptr .0) (a .0 .ptr .1) (a .1 .0 .ptr .0) (a .1 .0 .ptr .1) (a .0 .name) (a .1 .0 .name) (a .0 .now) (a .1 .0 .now) (a .1 .1 .0) (a .1 .1 .1 .0) C Λ fm k₀ k₁ k₂ (are .0 .0 .1) (are .1 .0 .0 .1) (are .1 .1 .0) (are .1 .1 .1 .0) (l)))
+      walk 𝓤 H A W mem run (κs .0) (κs .1 .0) (qs .0) (qs .1 .0) (a .0 .ptr .0) (a .0 .ptr .1) (a .1 .0 .ptr .0) (a .1 .0 .ptr .1) (a .0 .name) (a .1 .0 .name) (a .0 .now) (a .1 .0 .now) (a .1 .1 .0) (a .1 .1 .1 .0) C Λ fm k₀ k₁ (are .0 .0 .1) (are .1 .0 .0 .1) (are .1 .1 .0) (are .1 .1 .1 .0) (l)))
 
-advance-meets : {M : Type 1} (𝓤 : URA M) (H : Heap 𝓤) (A : Atoms 𝓤) → Given 𝓤 H A → (mem : Memory → SProp 𝓤) (run : Routine → Fun 𝓤) (𝓣 : Tables 𝓤 H) → Triple 𝓤 (𝓣 .C #advance·ask) (Asks 𝓤 H A mem run) → Triple 𝓤 (𝓣 .C #advance·learn) (Learns 𝓤 H A mem run) → Triple 𝓤 (𝓣 .C #advance·act) (Acts 𝓤 H A mem run) → Meets 𝓤 H A advance.signature (WpFn 𝓤 H (𝓣 .C) (𝓣 .Λ) code.function) (advance.spec 𝓤 H A mem run)
-advance-meets 𝓤 H A W mem run 𝓣 k₀ k₁ k₂ = walk-meets 𝓤 H A advance.ended stayed W (goes-slice 𝓤 H A W 2 0 tt (plain (λ _. R)), (goes-slice 𝓤 H A W 2 1 tt (plain (λ _. R₂)), (goes-none 𝓤 H A W 2 (λ _. R-Bench) yes (λ κs x f. refl), (goes-none 𝓤 H A W 2 (λ _. R-Event) yes (λ κs x f. refl), tt)))) (advance.clauses 𝓤 H A mem run)
-    (WpFn 𝓤 H (𝓣 .C) (𝓣 .Λ) code.function) (WpFn-mono 𝓤 H (W .laws) 𝓣 code.function) (advance-walks 𝓤 H A W mem run (𝓣 .C) (𝓣 .Λ) (fmOf 𝓤 H (W .laws) 𝓣) k₀ k₁ k₂)
+advance-meets : {M : Type 1} (𝓤 : URA M) (H : Heap 𝓤) (A : Atoms 𝓤) → Given 𝓤 H A → (mem : Memory → SProp 𝓤) (run : Routine → Fun 𝓤) (𝓣 : Tables 𝓤 H) → Triple 𝓤 (𝓣 .C #advance·ask) (Asks 𝓤 H A mem run) → Triple 𝓤 (𝓣 .C #advance·pursue) (Pursues 𝓤 H A mem run) → Meets 𝓤 H A advance.signature (WpFn 𝓤 H (𝓣 .C) (𝓣 .Λ) code.function) (advance.spec 𝓤 H A mem run)
+advance-meets 𝓤 H A W mem run 𝓣 k₀ k₁ = walk-meets 𝓤 H A advance.ended stayed W (goes-slice 𝓤 H A W 2 0 tt (plain (λ _. R)), (goes-slice 𝓤 H A W 2 1 tt (plain (λ _. R₂)), (goes-none 𝓤 H A W 2 (λ _. R-Bench) yes (λ κs x f. refl), (goes-none 𝓤 H A W 2 (λ _. R-Event) yes (λ κs x f. refl), tt)))) (advance.clauses 𝓤 H A mem run)
+    (WpFn 𝓤 H (𝓣 .C) (𝓣 .Λ) code.function) (WpFn-mono 𝓤 H (W .laws) 𝓣 code.function) (advance-walks 𝓤 H A W mem run (𝓣 .C) (𝓣 .Λ) (fmOf 𝓤 H (W .laws) 𝓣) k₀ k₁)
 
 pub advance-spec : {M : Type 1} → stated.statement M
 unfolding code.routine tablesOf
@@ -136,5 +128,4 @@ advance-spec 𝓤 H 𝓜 𝓖 𝓡 =
     (tables 𝓤 H 𝓜 𝓡 code.env .C) (tables 𝓤 H 𝓜 𝓡 code.env .Λ) #advance·advance code.function (code.unfolded 𝓤 H 𝓜 𝓡)
     (advance-meets 𝓤 H (𝓖 .A) (givenOf 𝓤 H 𝓜 𝓖) (𝓜 .mem) (𝓡 .run) (tablesOf 𝓤 H 𝓜 (tables 𝓤 H 𝓜 𝓡 code.env))
     (cited 𝓤 H (Asks 𝓤 H (𝓖 .A) (𝓜 .mem) (𝓡 .run)) 𝓜 𝓡 code.env #advance·ask ask-def.routine code.calls-advance·ask (ask-thm.met 𝓤 H 𝓜 𝓖 𝓡))
-    (cited 𝓤 H (Learns 𝓤 H (𝓖 .A) (𝓜 .mem) (𝓡 .run)) 𝓜 𝓡 code.env #advance·learn learn-def.routine code.calls-advance·learn (learn-thm.met 𝓤 H 𝓜 𝓖 𝓡))
-    (cited 𝓤 H (Acts 𝓤 H (𝓖 .A) (𝓜 .mem) (𝓡 .run)) 𝓜 𝓡 code.env #advance·act act-def.routine code.calls-advance·act (act-thm.met 𝓤 H 𝓜 𝓖 𝓡)))
+    (cited 𝓤 H (Pursues 𝓤 H (𝓖 .A) (𝓜 .mem) (𝓡 .run)) 𝓜 𝓡 code.env #advance·pursue pursue-def.routine code.calls-advance·pursue (pursue-thm.met 𝓤 H 𝓜 𝓖 𝓡)))

@@ -59,6 +59,7 @@ use Rattle.state.proofs.Bench as B
 use Rattle.state.proofs.Bench.Laws as B′
 use Rattle.text.specs.Lines.{runText}
 use Rattle.text.specs.Printed.{rowLines}
+use Rattle.text.specs.Short.{ShortBench, ShortRows}
 use Rattle.text.specs.Written.{Wrote}
 use Rattle.text.specs.WholeLaws.{whole as all-of}
 use Rattle.report.specs.Reported.{Reported}
@@ -123,15 +124,15 @@ module _ {M : Type 1} (𝓤 : URA M) (H : Heap 𝓤) (A : Atoms 𝓤) (W : Given
   start-fits : 81563 ≤ n₀ → 0 + 28 ≤ length ys₀
   start-fits le = omega arith
 
-  rows-ask : 81563 ≤ n₀ → bench .rows ≤ n₁ → bench .rows ≤ 1024 → (zs : List ℕ) (r : ℕ) → length zs ≡ n₀ → Run zs r → (r + 68 * bench .rows ≤ length zs) × ((bench .rows ≤ length ys₁) × (bench .rows ≤ 1024))
-  rows-ask le there few zs r len w = (omega (arith, w .ends, w .short), (there, few))
+  rows-ask : 81563 ≤ n₀ → bench .rows ≤ n₁ → bench .rows ≤ 1024 → ShortRows (bench .rows) ys₁ → (zs : List ℕ) (r : ℕ) → length zs ≡ n₀ → Run zs r → (r + 68 * bench .rows ≤ length zs) × ((bench .rows ≤ length ys₁) × ((bench .rows ≤ 1024) × ShortRows (bench .rows) ys₁))
+  rows-ask le there few times zs r len w = (omega (arith, w .ends, w .short), (there, (few, times)))
 
   tail-fits : 81563 ≤ n₀ → bench .rows ≤ 1024 → c ≤ 1024 → (zs us : List ℕ) (r t : ℕ) → length us ≡ n₀ → Run zs r → History zs r us t → t + 5759 + 6 * c ≤ length us
   tail-fits le few short zs us r t len w v = omega (arith, w .ends, w .short, v .ends, v .short)
 
   module _ (C : Calls 𝓤 H) (Λ : Loops 𝓤 H) (fm : FmC 𝓤 H (W .laws) C) (put-run-line-known : Triple 𝓤 (C #text·lines·put-run-line) (PutRunLine 𝓤 H A mem run)) (put-rows-known : Triple 𝓤 (C #report·put-rows) (PutRows 𝓤 H A mem run)) (put-tail-known : Triple 𝓤 (C #text·tail·put-tail) (PutTail 𝓤 H A mem run)) where
-    walk : Room u8 n₀ → Room R₂ n₁ → Room u16 n₂ → Is RBench bench (valsBench bench) → f < 2 ^ 8 → c < 2 ^ 64 → 81563 ≤ n₀ → bench .n ≤ 7 → bench .m ≤ 16 → bench .rows ≤ n₁ → bench .rows ≤ 1024 → c ≤ n₂ → c ≤ 1024 → ent 𝓤 (onEntry 𝓤 H A put-report.signature (κ₀, (κ₁, (κ₂, tt))) (q₀, (q₁, (q₂, tt))) a at) (WpFn 𝓤 H C Λ code.function (sliceVal (b₀, o₀) n₀ ∷ valBench bench ∷ vint w8 f ∷ sliceVal (b₁, o₁) n₁ ∷ sliceVal (b₂, o₂) n₂ ∷ vint w64 c ∷ []) Post)
-    walk gn₀ gn₁ gn₂ gbench gf gc h₀ h₁ h₂ h₃ h₄ h₅ h₆ =
+    walk : Room u8 n₀ → Room R₂ n₁ → Room u16 n₂ → Is RBench bench (valsBench bench) → f < 2 ^ 8 → c < 2 ^ 64 → 81563 ≤ n₀ → bench .n ≤ 7 → bench .m ≤ 16 → bench .rows ≤ n₁ → bench .rows ≤ 1024 → c ≤ n₂ → c ≤ 1024 → ShortBench bench → ShortRows (bench .rows) ys₁ → ent 𝓤 (onEntry 𝓤 H A put-report.signature (κ₀, (κ₁, (κ₂, tt))) (q₀, (q₁, (q₂, tt))) a at) (WpFn 𝓤 H C Λ code.function (sliceVal (b₀, o₀) n₀ ∷ valBench bench ∷ vint w8 f ∷ sliceVal (b₁, o₁) n₁ ∷ sliceVal (b₂, o₂) n₂ ∷ vint w64 c ∷ []) Post)
+    walk gn₀ gn₁ gn₂ gbench gf gc h₀ h₁ h₂ h₃ h₄ h₅ h₆ h₇ h₈ =
         qed W ((‵ (flft κ₀ q₀) ⊛ (‵ (flft κ₁ q₁) ⊛ (‵ (flft κ₂ q₂) ⊛ ‵ ftrue))) ∷ ‵ (owns (MutSlice (named 0) κ₀ u8 ∷ RBench ∷ u8 ∷ ShrSlice (named 1) κ₁ R₂ ∷ ShrSlice (named 2) κ₂ u16 ∷ usize ∷ []) a at) ∷ []) ∵ enter ! C Λ code.function (sliceVal (b₀, o₀) n₀ ∷ valBench bench ∷ vint w8 f ∷ sliceVal (b₁, o₁) n₁ ∷ sliceVal (b₂, o₂) n₂ ∷ vint w64 c ∷ []) _ $
         alloc1 ! (λ l₀. alloc1 ! (λ l₁. alloc1 ! (λ l₂. alloc1 ! (λ l₃. alloc1 ! (λ l₄. alloc1 ! (λ l₅. alloc1 ! (λ l₆. alloc1 ! (λ l₇. alloc1 ! (λ l₈. alloc1 ! (λ l₉. alloc1 ! (λ l₁₀. alloc1 ! (λ l₁₁. alloc1 ! (λ l₁₂. alloc1 ! (λ l₁₃. alloc1 ! (λ l₁₄. alloc0 ! $ params1 ! $
         pass1 ! (init ! 26 refl (tt, (tt, (record { fits = gn₀ .0 }, tt)))) $ pass1 ! (init ! 24 refl (typedBench 𝓤 H A W bench gbench)) $ pass1 ! (init ! 22 refl (tt, record { fits = gf })) $ pass1 ! (init ! 20 refl (tt, (tt, (record { fits = gn₁ .0 }, tt)))) $ pass1 ! (init ! 18 refl (tt, (tt, (record { fits = gn₂ .0 }, tt)))) $ pass1 ! (init ! 16 refl (tt, record { fits = gc })) $ pass0 ! $
@@ -143,11 +144,11 @@ module _ {M : Type 1} (𝓤 : URA M) (H : Heap 𝓤) (A : Atoms 𝓤) (W : Given
         land ! (from ! (stop !)) (init ! 22 refl (tt, record { fits = g₁ })) $
         assigns ! (addr ! (from ! (fld ! refl (hop ! (look-in ! 34 (sub ! 0 refl (whole !))) (stop !))))) (from ! (stop !)) (init ! 14 refl (tt, tt)) $
         assigns ! (agg ! (and-then ! (load ! (from ! (stop !)) (look ! 14 refl)) (and-then ! (load ! (from ! (fld ! refl (stop !))) (look-in ! 34 (sub ! 1 refl (whole !)))) (no-more !)))) (from ! (stop !)) (init ! 12 refl (tt, (tt, (record { fits = gn₀ .0 }, tt)))) $
-        calls-put-rows ! fm mem run put-rows-known b₀ o₀ n₀ b₁ o₁ n₁ us₁ ys₁ len₁ gn₀ r₁ (bench .rows) g₁ (rows-fit gbench) (rows-ask h₀ h₃ h₄ us₁ r₁ len₁ w₁) (λ P L₁ L₀ T. and-then ! (load ! (from ! (stop !)) (look ! 12 refl)) (and-then ! (load ! (from ! (stop !)) (look ! 22 refl)) (and-then ! (load ! (from ! (stop !)) (look ! 28 refl)) (and-then ! (load ! (from ! (fld ! refl (stop !))) (look-in ! 32 (sub ! 7 refl (whole !)))) (no-more !))))) (λ r₂ us₂ g₂ len₂ w₂.
+        calls-put-rows ! fm mem run put-rows-known b₀ o₀ n₀ b₁ o₁ n₁ us₁ ys₁ len₁ gn₀ r₁ (bench .rows) g₁ (rows-fit gbench) (rows-ask h₀ h₃ h₄ h₈ us₁ r₁ len₁ w₁) (λ P L₁ L₀ T. and-then ! (load ! (from ! (stop !)) (look ! 12 refl)) (and-then ! (load ! (from ! (stop !)) (look ! 22 refl)) (and-then ! (load ! (from ! (stop !)) (look ! 28 refl)) (and-then ! (load ! (from ! (fld ! refl (stop !))) (look-in ! 32 (sub ! 7 refl (whole !)))) (no-more !))))) (λ r₂ us₂ g₂ len₂ w₂.
         land ! (from ! (stop !)) (init ! 20 refl (tt, record { fits = g₂ })) $
         assigns ! (addr ! (from ! (fld ! refl (hop ! (look-in ! 34 (sub ! 0 refl (whole !))) (stop !))))) (from ! (stop !)) (init ! 10 refl (tt, tt)) $
         assigns ! (agg ! (and-then ! (load ! (from ! (stop !)) (look ! 10 refl)) (and-then ! (load ! (from ! (fld ! refl (stop !))) (look-in ! 34 (sub ! 1 refl (whole !)))) (no-more !)))) (from ! (stop !)) (init ! 8 refl (tt, (tt, (record { fits = gn₀ .0 }, tt)))) $
-        move ! (0 ∷ 1 ∷ 4 ∷ 5 ∷ []) $ calls-put-tail ! fm mem run put-tail-known b₀ o₀ n₀ b₂ o₂ n₂ us₂ ys₂ len₂ gn₀ r₂ bench c g₂ gbench gc (h₁, h₂) (h₅, tail-fits h₀ h₄ h₆ us₁ us₂ r₁ r₂ len₂ w₁ w₂) (λ P L₁ L₀ T. and-then ! (load ! (from ! (stop !)) (look ! 8 refl)) (and-then ! (load ! (from ! (stop !)) (look ! 20 refl)) (and-then ! (load ! (from ! (stop !)) (look ! 32 refl)) (and-then ! (load ! (from ! (stop !)) (look ! 26 refl)) (and-then ! (load ! (from ! (stop !)) (look ! 24 refl)) (no-more !)))))) (λ r₃ us₃ g₃ len₃ w₃. move ! (0 ∷ 1 ∷ 4 ∷ 5 ∷ []) $
+        move ! (0 ∷ 1 ∷ 4 ∷ 5 ∷ []) $ calls-put-tail ! fm mem run put-tail-known b₀ o₀ n₀ b₂ o₂ n₂ us₂ ys₂ len₂ gn₀ r₂ bench c g₂ gbench gc (h₁, (h₂, h₇)) (h₅, tail-fits h₀ h₄ h₆ us₁ us₂ r₁ r₂ len₂ w₁ w₂) (λ P L₁ L₀ T. and-then ! (load ! (from ! (stop !)) (look ! 8 refl)) (and-then ! (load ! (from ! (stop !)) (look ! 20 refl)) (and-then ! (load ! (from ! (stop !)) (look ! 32 refl)) (and-then ! (load ! (from ! (stop !)) (look ! 26 refl)) (and-then ! (load ! (from ! (stop !)) (look ! 24 refl)) (no-more !)))))) (λ r₃ us₃ g₃ len₃ w₃. move ! (0 ∷ 1 ∷ 4 ∷ 5 ∷ []) $
         land ! (from ! (stop !)) (init ! 36 refl (tt, record { fits = g₃ })) $
         returns ! (look ! 36 refl) $ forget ! 8 refl $ forget ! 10 refl $ forget ! 12 refl $ forget ! 14 refl $ forget ! 16 refl $ forget ! 18 refl $ forget ! 20 refl $ forget ! 22 refl $ forget ! 24 refl $ forget ! 26 refl $ forget ! 28 refl $ forget ! 30 refl $ forget ! 32 refl $ forget ! 34 refl $ forget ! 36 refl $
         move ! (36 ∷ 37 ∷ []) $ free1 ! $ move ! (34 ∷ 35 ∷ []) $ free1 ! $ move ! (32 ∷ 33 ∷ []) $ free1 ! $ move ! (30 ∷ 31 ∷ []) $ free1 ! $ move ! (28 ∷ 29 ∷ []) $ free1 ! $ move ! (26 ∷ 27 ∷ []) $ free1 ! $ move ! (24 ∷ 25 ∷ []) $ free1 ! $ move ! (22 ∷ 23 ∷ []) $ free1 ! $ move ! (20 ∷ 21 ∷ []) $ free1 ! $ move ! (18 ∷ 19 ∷ []) $ free1 ! $ move ! (16 ∷ 17 ∷ []) $ free1 ! $ move ! (14 ∷ 15 ∷ []) $ free1 ! $ move ! (12 ∷ 13 ∷ []) $ free1 ! $ move ! (10 ∷ 11 ∷ []) $ free1 ! $ move ! (8 ∷ 9 ∷ []) $ free1 ! $ free0 ! $
@@ -156,8 +157,8 @@ module _ {M : Type 1} (𝓤 : URA M) (H : Heap 𝓤) (A : Atoms 𝓤) (W : Given
 module _ {M : Type 1} (𝓤 : URA M) (H : Heap 𝓤) (A : Atoms 𝓤) (W : Given 𝓤 H A) (mem : Memory → SProp 𝓤) (run : Routine → Fun 𝓤) where
   put-report-walks : (C : Calls 𝓤 H) (Λ : Loops 𝓤 H) → FmC 𝓤 H (W .laws) C → Triple 𝓤 (C #text·lines·put-run-line) (PutRunLine 𝓤 H A mem run) → Triple 𝓤 (C #report·put-rows) (PutRows 𝓤 H A mem run) → Triple 𝓤 (C #text·tail·put-tail) (PutTail 𝓤 H A mem run) → Walks 𝓤 H A put-report.ended stayed (WpFn 𝓤 H C Λ code.function) (put-report.clauses 𝓤 H A mem run)
   put-report-walks C Λ fm k₀ k₁ k₂ = walked 𝓤 H A put-report.ended stayed (put-report.clauses 𝓤 H A mem run) (WpFn 𝓤 H C Λ code.function) (λ κs. (slice-vals, (valsBench, (uint-vals w8, (slice-vals, (slice-vals, (uint-vals w64, tt))))))) (λ κs. (mut-slice-tells (named 0) (κs .0) u8, (tellsBench, (uint-tells w8, (shr-slice-tells (named 1) (κs .1 .0) R₂, (shr-slice-tells (named 2) (κs .1 .1 .0) u16, (uint-tells w64, tt)))))))
-      (λ κs qs bounds a g are. needs 𝓤 ((81563 ≤ (length (now (a .0)))) × (((a .1 .0) .n ≤ 7) × (((a .1 .0) .m ≤ 16) × (((a .1 .0) .rows ≤ (length (now (a .1 .1 .1 .0)))) × (((a .1 .0) .rows ≤ 1024) × (((a .1 .1 .1 .1 .1 .0) ≤ (length (now (a .1 .1 .1 .1 .0)))) × ((a .1 .1 .1 .1 .1 .0) ≤ 1024))))))) _ (λ l.
-      walk 𝓤 H A W mem run (κs .0) (κs .1 .0) (κs .1 .1 .0) (qs .0) (qs .1 .0) (qs .1 .1 .0) (a .0 .ptr .0) (a .0 .ptr .1) (a .1 .1 .1 .0 .ptr .0) (a .1 .1 .1 .0 .ptr .1) (a .1 .1 .1 .1 .0 .ptr .0) (a .1 .1 .1 .1 .0 .ptr .1) (a .0 .name) (a .1 .1 .1 .0 .name) (a .1 .1 .1 .1 .0 .name) (a .0 .now) (a .1 .1 .1 .0 .now) (a .1 .1 .1 .1 .0 .now) (a .1 .0) (a .1 .1 .0) (a .1 .1 .1 .1 .1 .0) C Λ fm k₀ k₁ k₂ (are .0 .0 .1) (are .1 .1 .1 .0 .0 .1) (are .1 .1 .1 .1 .0 .0 .1) (are .1 .0) (are .1 .1 .0 .1) (are .1 .1 .1 .1 .1 .0 .1) (l .0) (l .1 .0) (l .1 .1 .0) (l .1 .1 .1 .0) (l .1 .1 .1 .1 .0) (l .1 .1 .1 .1 .1 .0) (l .1 .1 .1 .1 .1 .1)))
+      (λ κs qs bounds a g are. needs 𝓤 ((81563 ≤ (length (now (a .0)))) × (((a .1 .0) .n ≤ 7) × (((a .1 .0) .m ≤ 16) × (((a .1 .0) .rows ≤ (length (now (a .1 .1 .1 .0)))) × (((a .1 .0) .rows ≤ 1024) × (((a .1 .1 .1 .1 .1 .0) ≤ (length (now (a .1 .1 .1 .1 .0)))) × (((a .1 .1 .1 .1 .1 .0) ≤ 1024) × ((ShortBench (a .1 .0)) × (ShortRows ((a .1 .0) .rows) (now (a .1 .1 .1 .0))))))))))) _ (λ l.
+      walk 𝓤 H A W mem run (κs .0) (κs .1 .0) (κs .1 .1 .0) (qs .0) (qs .1 .0) (qs .1 .1 .0) (a .0 .ptr .0) (a .0 .ptr .1) (a .1 .1 .1 .0 .ptr .0) (a .1 .1 .1 .0 .ptr .1) (a .1 .1 .1 .1 .0 .ptr .0) (a .1 .1 .1 .1 .0 .ptr .1) (a .0 .name) (a .1 .1 .1 .0 .name) (a .1 .1 .1 .1 .0 .name) (a .0 .now) (a .1 .1 .1 .0 .now) (a .1 .1 .1 .1 .0 .now) (a .1 .0) (a .1 .1 .0) (a .1 .1 .1 .1 .1 .0) C Λ fm k₀ k₁ k₂ (are .0 .0 .1) (are .1 .1 .1 .0 .0 .1) (are .1 .1 .1 .1 .0 .0 .1) (are .1 .0) (are .1 .1 .0 .1) (are .1 .1 .1 .1 .1 .0 .1) (l .0) (l .1 .0) (l .1 .1 .0) (l .1 .1 .1 .0) (l .1 .1 .1 .1 .0) (l .1 .1 .1 .1 .1 .0) (l .1 .1 .1 .1 .1 .1 .0) (l .1 .1 .1 .1 .1 .1 .1 .0) (l .1 .1 .1 .1 .1 .1 .1 .1)))
 
 put-report-meets : {M : Type 1} (𝓤 : URA M) (H : Heap 𝓤) (A : Atoms 𝓤) → Given 𝓤 H A → (mem : Memory → SProp 𝓤) (run : Routine → Fun 𝓤) (𝓣 : Tables 𝓤 H) → Triple 𝓤 (𝓣 .C #text·lines·put-run-line) (PutRunLine 𝓤 H A mem run) → Triple 𝓤 (𝓣 .C #report·put-rows) (PutRows 𝓤 H A mem run) → Triple 𝓤 (𝓣 .C #text·tail·put-tail) (PutTail 𝓤 H A mem run) → Meets 𝓤 H A put-report.signature (WpFn 𝓤 H (𝓣 .C) (𝓣 .Λ) code.function) (put-report.spec 𝓤 H A mem run)
 put-report-meets 𝓤 H A W mem run 𝓣 k₀ k₁ k₂ = walk-meets 𝓤 H A put-report.ended stayed W (goes-slice 𝓤 H A W 3 0 tt (plain (λ _. u8)), (goes-none 𝓤 H A W 3 (λ _. RBench) yes (λ κs x f. refl), (goes-none 𝓤 H A W 3 (λ _. u8) yes (λ κs x f. refl), (goes-none-slice 𝓤 H A W 3 (1 ∷ []) tt (plain (λ _. R₂)) yes, (goes-none-slice 𝓤 H A W 3 (2 ∷ []) tt (plain (λ _. u16)) yes, (goes-none 𝓤 H A W 3 (λ _. usize) yes (λ κs x f. refl), tt)))))) (put-report.clauses 𝓤 H A mem run)

@@ -54,6 +54,7 @@ use native.Mathlib.Omega.{arith}
 use Rattle.tables.specs.Tables.{emptyRow}
 use Rattle.tables.proofs.Flow.{whiles3, tests, leaves}
 use Rattle.text.specs.Printed.{rowLine, rowLines}
+use Rattle.text.specs.Short.{ShortRows}
 use Rattle.text.specs.Written.{Wrote}
 use Rattle.text.specs.WrittenLaws.{andThen, asText, nothing as wrote-nothing}
 use Rattle.text.specs.LineLaws.{one-row}
@@ -128,8 +129,8 @@ module _ {M : Type 1} (𝓤 : URA M) (H : Heap 𝓤) (A : Atoms 𝓤) (W : Given
   less i h = omega arith
 
   module _ (𝓣 : Tables 𝓤 H) (fm : FmC 𝓤 H (W .laws) (𝓣 .C)) (row-at-known : Triple 𝓤 (𝓣 .C #tables·row-at) (RowAt 𝓤 H A mem run)) (put-row-line-known : Triple 𝓤 (𝓣 .C #text·rows·put-row-line) (PutRowLine 𝓤 H A mem run)) where
-    walk : Room u8 n₀ → Room R₂ n₁ → s < 2 ^ 64 → c < 2 ^ 16 → s + 68 * c ≤ n₀ → c ≤ n₁ → c ≤ 1024 → ent 𝓤 (onEntry 𝓤 H A put-rows.signature (κ₀, (κ₁, tt)) (q₀, (q₁, tt)) a at) (WpFn 𝓤 H (𝓣 .C) (𝓣 .Λ) code.function (sliceVal (b₀, o₀) n₀ ∷ vint w64 s ∷ sliceVal (b₁, o₁) n₁ ∷ vint w16 c ∷ []) Post)
-    walk gn₀ gn₁ gs gc h₀ h₁ h₂ =
+    walk : Room u8 n₀ → Room R₂ n₁ → s < 2 ^ 64 → c < 2 ^ 16 → s + 68 * c ≤ n₀ → c ≤ n₁ → c ≤ 1024 → ShortRows c ys₁ → ent 𝓤 (onEntry 𝓤 H A put-rows.signature (κ₀, (κ₁, tt)) (q₀, (q₁, tt)) a at) (WpFn 𝓤 H (𝓣 .C) (𝓣 .Λ) code.function (sliceVal (b₀, o₀) n₀ ∷ vint w64 s ∷ sliceVal (b₁, o₁) n₁ ∷ vint w16 c ∷ []) Post)
+    walk gn₀ gn₁ gs gc h₀ h₁ h₂ h₃ =
         qed W ((‵ (flft κ₀ q₀) ⊛ (‵ (flft κ₁ q₁) ⊛ ‵ ftrue)) ∷ ‵ (owns (MutSlice (named 0) κ₀ u8 ∷ usize ∷ ShrSlice (named 1) κ₁ R₂ ∷ u16 ∷ []) a at) ∷ []) ∵ enter ! (𝓣 .C) (𝓣 .Λ) code.function (sliceVal (b₀, o₀) n₀ ∷ vint w64 s ∷ sliceVal (b₁, o₁) n₁ ∷ vint w16 c ∷ []) _ $
         alloc1 ! (λ l₀. alloc1 ! (λ l₁. alloc1 ! (λ l₂. alloc1 ! (λ l₃. alloc1 ! (λ l₄. alloc1 ! (λ l₅. alloc1 ! (λ l₆. alloc1 ! (λ l₇. alloc1 ! (λ l₈. alloc1 ! (λ l₉. alloc1 ! (λ l₁₀. alloc1 ! (λ l₁₁. alloc1 ! (λ l₁₂. alloc0 ! $ params1 ! $
         pass1 ! (init ! 22 refl (tt, (tt, (record { fits = gn₀ .0 }, tt)))) $ pass1 ! (init ! 20 refl (tt, record { fits = gs })) $ pass1 ! (init ! 18 refl (tt, (tt, (record { fits = gn₁ .0 }, tt)))) $ pass1 ! (init ! 16 refl (tt, record { fits = gc })) $ pass0 ! $
@@ -147,7 +148,7 @@ module _ {M : Type 1} (𝓤 : URA M) (H : Heap 𝓤) (A : Atoms 𝓤) (W : Given
         assigns ! (addr ! (from ! (fld ! refl (hop ! (look-in ! 28 (sub ! 0 refl (whole !))) (stop !))))) (from ! (stop !)) (init ! 10 refl (tt, tt)) $
         assigns ! (agg ! (and-then ! (load ! (from ! (stop !)) (look ! 10 refl)) (and-then ! (load ! (from ! (fld ! refl (stop !))) (look-in ! 28 (sub ! 1 refl (whole !)))) (no-more !)))) (from ! (stop !)) (init ! 8 refl (tt, (tt, (record { fits = gn₀ .0 }, tt)))) $
         assigns ! (bin ! (load ! (from ! (stop !)) (look ! 18 refl)) (lit ! tt) (record { fits = up (x .0) h₂ (ltb→lt (x .0) c h) })) (from ! (stop !)) (init ! 6 refl (tt, record { fits = up (x .0) h₂ (ltb→lt (x .0) c h) })) $
-        calls-put-row-line ! fm mem run put-row-line-known b₀ o₀ n₀ (x .1 .1 .0) (x .1 .1 .1 .1 .0) gn₀ (x .1 .0) (x .0 + 1) (getD ys₁ (x .0) emptyRow) (end-fits (gn₀ .0) (x .0) (x .1 .0) (x .1 .1 .0) (x .1 .1 .1)) (up (x .0) h₂ (ltb→lt (x .0) c h)) im (fits h₀ (x .0) (x .1 .0) (x .1 .1 .0) (x .1 .1 .1) (ltb→lt (x .0) c h)) (λ P L. and-then ! (load ! (from ! (stop !)) (look ! 8 refl)) (and-then ! (load ! (from ! (stop !)) (look ! 20 refl)) (and-then ! (load ! (from ! (stop !)) (look ! 6 refl)) (and-then ! (load ! (from ! (stop !)) (look ! 16 refl)) (no-more !))))) (λ r us gr len w.
+        calls-put-row-line ! fm mem run put-row-line-known b₀ o₀ n₀ (x .1 .1 .0) (x .1 .1 .1 .1 .0) gn₀ (x .1 .0) (x .0 + 1) (getD ys₁ (x .0) emptyRow) (end-fits (gn₀ .0) (x .0) (x .1 .0) (x .1 .1 .0) (x .1 .1 .1)) (up (x .0) h₂ (ltb→lt (x .0) c h)) im (fits h₀ (x .0) (x .1 .0) (x .1 .1 .0) (x .1 .1 .1) (ltb→lt (x .0) c h), h₃ (x .0) (ltb→lt (x .0) c h)) (λ P L. and-then ! (load ! (from ! (stop !)) (look ! 8 refl)) (and-then ! (load ! (from ! (stop !)) (look ! 20 refl)) (and-then ! (load ! (from ! (stop !)) (look ! 6 refl)) (and-then ! (load ! (from ! (stop !)) (look ! 16 refl)) (no-more !))))) (λ r us gr len w.
         land ! (from ! (stop !)) (store ! 20 refl (tt, record { fits = gr })) $
         assigns-last ! (bin ! (load ! (from ! (stop !)) (look ! 18 refl)) (lit ! tt) (record { fits = up (x .0) h₂ (ltb→lt (x .0) c h) })) (from ! (stop !)) (store ! 18 refl (tt, record { fits = up (x .0) h₂ (ltb→lt (x .0) c h) })) $
         forget ! 16 refl $ forget ! 14 refl $ forget ! 12 refl $ forget ! 10 refl $ forget ! 8 refl $ forget ! 6 refl $
@@ -161,8 +162,8 @@ module _ {M : Type 1} (𝓤 : URA M) (H : Heap 𝓤) (A : Atoms 𝓤) (W : Given
 module _ {M : Type 1} (𝓤 : URA M) (H : Heap 𝓤) (A : Atoms 𝓤) (W : Given 𝓤 H A) (mem : Memory → SProp 𝓤) (run : Routine → Fun 𝓤) where
   put-rows-walks : (𝓣 : Tables 𝓤 H) → FmC 𝓤 H (W .laws) (𝓣 .C) → Triple 𝓤 (𝓣 .C #tables·row-at) (RowAt 𝓤 H A mem run) → Triple 𝓤 (𝓣 .C #text·rows·put-row-line) (PutRowLine 𝓤 H A mem run) → Walks 𝓤 H A put-rows.ended stayed (WpFn 𝓤 H (𝓣 .C) (𝓣 .Λ) code.function) (put-rows.clauses 𝓤 H A mem run)
   put-rows-walks 𝓣 fm k₀ k₁ = walked 𝓤 H A put-rows.ended stayed (put-rows.clauses 𝓤 H A mem run) (WpFn 𝓤 H (𝓣 .C) (𝓣 .Λ) code.function) (λ κs. (slice-vals, (uint-vals w64, (slice-vals, (uint-vals w16, tt))))) (λ κs. (mut-slice-tells (named 0) (κs .0) u8, (uint-tells w64, (shr-slice-tells (named 1) (κs .1 .0) R₂, (uint-tells w16, tt)))))
-      (λ κs qs bounds a g are. needs 𝓤 (((a .1 .0) + 68 * (a .1 .1 .1 .0) ≤ (length (now (a .0)))) × (((a .1 .1 .1 .0) ≤ (length (now (a .1 .1 .0)))) × ((a .1 .1 .1 .0) ≤ 1024))) _ (λ l.
-      walk 𝓤 H A W mem run (κs .0) (κs .1 .0) (qs .0) (qs .1 .0) (a .0 .ptr .0) (a .0 .ptr .1) (a .1 .1 .0 .ptr .0) (a .1 .1 .0 .ptr .1) (a .0 .name) (a .1 .1 .0 .name) (a .0 .now) (a .1 .1 .0 .now) (a .1 .0) (a .1 .1 .1 .0) 𝓣 fm k₀ k₁ (are .0 .0 .1) (are .1 .1 .0 .0 .1) (are .1 .0 .1) (are .1 .1 .1 .0 .1) (l .0) (l .1 .0) (l .1 .1)))
+      (λ κs qs bounds a g are. needs 𝓤 (((a .1 .0) + 68 * (a .1 .1 .1 .0) ≤ (length (now (a .0)))) × (((a .1 .1 .1 .0) ≤ (length (now (a .1 .1 .0)))) × (((a .1 .1 .1 .0) ≤ 1024) × (ShortRows (a .1 .1 .1 .0) (now (a .1 .1 .0)))))) _ (λ l.
+      walk 𝓤 H A W mem run (κs .0) (κs .1 .0) (qs .0) (qs .1 .0) (a .0 .ptr .0) (a .0 .ptr .1) (a .1 .1 .0 .ptr .0) (a .1 .1 .0 .ptr .1) (a .0 .name) (a .1 .1 .0 .name) (a .0 .now) (a .1 .1 .0 .now) (a .1 .0) (a .1 .1 .1 .0) 𝓣 fm k₀ k₁ (are .0 .0 .1) (are .1 .1 .0 .0 .1) (are .1 .0 .1) (are .1 .1 .1 .0 .1) (l .0) (l .1 .0) (l .1 .1 .0) (l .1 .1 .1)))
 
 put-rows-meets : {M : Type 1} (𝓤 : URA M) (H : Heap 𝓤) (A : Atoms 𝓤) → Given 𝓤 H A → (mem : Memory → SProp 𝓤) (run : Routine → Fun 𝓤) (𝓣 : Tables 𝓤 H) → Triple 𝓤 (𝓣 .C #tables·row-at) (RowAt 𝓤 H A mem run) → Triple 𝓤 (𝓣 .C #text·rows·put-row-line) (PutRowLine 𝓤 H A mem run) → Meets 𝓤 H A put-rows.signature (WpFn 𝓤 H (𝓣 .C) (𝓣 .Λ) code.function) (put-rows.spec 𝓤 H A mem run)
 put-rows-meets 𝓤 H A W mem run 𝓣 k₀ k₁ = walk-meets 𝓤 H A put-rows.ended stayed W (goes-slice 𝓤 H A W 2 0 tt (plain (λ _. u8)), (goes-none 𝓤 H A W 2 (λ _. usize) yes (λ κs x f. refl), (goes-none-slice 𝓤 H A W 2 (1 ∷ []) tt (plain (λ _. R₂)) yes, (goes-none 𝓤 H A W 2 (λ _. u16) yes (λ κs x f. refl), tt)))) (put-rows.clauses 𝓤 H A mem run)

@@ -1,6 +1,7 @@
--- `schedule::run_events` meets its contract: a walk of its MIR, by hand. A loop over the two tables and what the last turn came to.
+-- Written by tools/walks/walkgen.py from run_events.py beside it: change that.
+-- `schedule::run_events` meets its contract: a walk of its MIR. A loop over the two tables and what the last turn came to.
 -- Assumes nothing.
-use mathlib.Core.Path.{_≡_, refl, sym, ap, subst, _∙_}
+use mathlib.Core.Path.{_≡_, refl, sym, ap, _∙_}
 use Prim.Native.Nat.{ℕ, _-_, _<_, _^_}
 use mathlib.Core.Bool.{Bool, true}
 use mathlib.Core.List.{List, [], _∷_}
@@ -41,7 +42,7 @@ use Rattle.tables.specs.declared.Row.{Row}
 use Rattle.tables.proofs.Messages.{R}
 use Rattle.tables.proofs.Rows.{R as R₂}
 use Rattle.tables.proofs.Calls.{Mut, Shr, slice}
-use Rattle.schedule.proofs.Callees.{Beguns, GoesOns, PlaceIns, EventAts, BenchIns, OneEvents, Endeds, calls-begun, calls-goes-on, calls-place-in, calls-event-at, calls-bench-in, calls-one-event, calls-ended}
+use Rattle.schedule.proofs.Callees.{Beguns, GoesOns, PlaceIns, EventAts, OneEvents, Endeds, calls-begun, calls-goes-on, calls-place-in, calls-event-at, calls-one-event, calls-ended}
 use Rattle.state.specs.declared.Bench.{Bench}
 use Rattle.advance.proofs.Benches.{R as RBench, val as valBench, vals as valsBench, tells as tellsBench, typed as typedBench}
 use Rattle.state.specs.declared.Stepped.{Stepped}
@@ -62,9 +63,6 @@ use Rattle.schedule.proofs.turns.place_in.Met as place-in-thm
 use Rattle.format.proofs.events.event_at.Symbol as event-at-def
 use Rattle.format.proofs.events.event_at.Symbol.{name as #format·events·event-at}
 use Rattle.format.proofs.events.event_at.Met as event-at-thm
-use Rattle.schedule.proofs.turns.bench_in.Symbol as bench-in-def
-use Rattle.schedule.proofs.turns.bench_in.Symbol.{name as #schedule·turns·bench-in}
-use Rattle.schedule.proofs.turns.bench_in.Met as bench-in-thm
 use Rattle.schedule.proofs.one_event.Symbol as one-event-def
 use Rattle.schedule.proofs.one_event.Symbol.{name as #schedule·one-event}
 use Rattle.schedule.proofs.one_event.Met as one-event-thm
@@ -73,9 +71,9 @@ use Rattle.schedule.proofs.turns.ended.Symbol.{name as #schedule·turns
 use Rattle.schedule.proofs.turns.ended.Met as ended-thm
 use Rattle.state.specs.State.{view}
 use Rattle.state.specs.Tabled.{tabled}
-use Rattle.format.specs.Format.{eventAt}
 use Rattle.tables.specs.TableLaws.{holds, fails}
 use Rattle.tables.proofs.Flow.{whiles3, tests, leaves}
+use Rattle.format.specs.Format.{eventAt}
 use Rattle.schedule.specs.Run.{Ran, ran}
 use Rattle.schedule.specs.Turns.{RanOn, Turned}
 use Rattle.schedule.specs.TurnLaws.{measure, Going, begins, goes, smaller, ends}
@@ -123,61 +121,59 @@ module _ {M : Type 1} (𝓤 : URA M) (H : Heap 𝓤) (A : Atoms 𝓤) (W : Given
   abbrev Loop : Type 0
   Loop = (u : Turn) × ((ms : List Message) × ((rs : List Row) × (Is RTurn u (valsTurn u) × ((length ms ≡ n₀) × ((length rs ≡ n₁) × Going ys₂ u ms rs all)))))
 
-  still : (x : Loop) (c : Bench) → c ≡ x .0 .bench → tabled c (x .1 .0) (x .1 .1 .0) ≡ true
-  still x c e = subst (λ (d : Bench). tabled d (x .1 .0) (x .1 .1 .0) ≡ true) (sym e) (x .1 .1 .1 .1 .1 .1 .tables)
+  still : (x : Loop) → tabled (x .0 .bench) (x .1 .0) (x .1 .1 .0) ≡ true
+  still x = x .1 .1 .1 .1 .1 .1 .tables
 
-  onto : (x : Loop) (c : Bool) → c ≡ x .0 .go → T c → (j : ℕ) → j ≡ x .0 .at → (p : Parse) → p ≡ eventAt ys₂ j → (d : Bench) → d ≡ x .0 .bench → (r : Turn) (ms : List Message) (rs : List Row) → Turned d p (x .1 .0) (x .1 .1 .0) r ms rs → Going ys₂ r ms rs all
-  onto x c ec h j ej p ep d ed r ms rs e = goes ys₂ (x .0) (x .1 .0) (x .1 .1 .0) all (x .1 .1 .1 .1 .1 .1) (sym ec ∙ holds c h) p (ep ∙ ap (eventAt ys₂) ej) d ed r ms rs e
+  onto : (x : Loop) (c : Bool) → c ≡ x .0 .go → T c → (j : ℕ) → j ≡ x .0 .at → (p : Parse) → p ≡ eventAt ys₂ j → (r : Turn) (ms : List Message) (rs : List Row) → Turned (x .0 .bench) p (x .1 .0) (x .1 .1 .0) r ms rs → Going ys₂ r ms rs all
+  onto x c ec h j ej p ep r ms rs e = goes ys₂ (x .0) (x .1 .0) (x .1 .1 .0) all (x .1 .1 .1 .1 .1 .1) (sym ec ∙ holds c h) p (ep ∙ ap (eventAt ys₂) ej) (x .0 .bench) refl r ms rs e
 
-  less : (x : Loop) (c : Bool) → c ≡ x .0 .go → T c → (j : ℕ) → j ≡ x .0 .at → (p : Parse) → p ≡ eventAt ys₂ j → (d : Bench) → d ≡ x .0 .bench → (r : Turn) (ms : List Message) (rs : List Row) → Turned d p (x .1 .0) (x .1 .1 .0) r ms rs → measure ys₂ r < measure ys₂ (x .0)
-  less x c ec h j ej p ep d ed r ms rs e = smaller ys₂ (x .0) (x .1 .0) (x .1 .1 .0) all (x .1 .1 .1 .1 .1 .1) (sym ec ∙ holds c h) p (ep ∙ ap (eventAt ys₂) ej) d ed r ms rs e
+  less : (x : Loop) (c : Bool) → c ≡ x .0 .go → T c → (j : ℕ) → j ≡ x .0 .at → (p : Parse) → p ≡ eventAt ys₂ j → (r : Turn) (ms : List Message) (rs : List Row) → Turned (x .0 .bench) p (x .1 .0) (x .1 .1 .0) r ms rs → measure ys₂ r < measure ys₂ (x .0)
+  less x c ec h j ej p ep r ms rs e = smaller ys₂ (x .0) (x .1 .0) (x .1 .1 .0) all (x .1 .1 .1 .1 .1 .1) (sym ec ∙ holds c h) p (ep ∙ ap (eventAt ys₂) ej) (x .0 .bench) refl r ms rs e
 
-  module _ (𝓣 : Tables 𝓤 H) (fm : FmC 𝓤 H (W .laws) (𝓣 .C)) (begun-known : Triple 𝓤 (𝓣 .C #schedule·turns·begun) (Beguns 𝓤 H A mem run)) (goes-on-known : Triple 𝓤 (𝓣 .C #schedule·turns·goes-on) (GoesOns 𝓤 H A mem run)) (place-in-known : Triple 𝓤 (𝓣 .C #schedule·turns·place-in) (PlaceIns 𝓤 H A mem run)) (event-at-known : Triple 𝓤 (𝓣 .C #format·events·event-at) (EventAts 𝓤 H A mem run)) (bench-in-known : Triple 𝓤 (𝓣 .C #schedule·turns·bench-in) (BenchIns 𝓤 H A mem run)) (one-event-known : Triple 𝓤 (𝓣 .C #schedule·one-event) (OneEvents 𝓤 H A mem run)) (ended-known : Triple 𝓤 (𝓣 .C #schedule·turns·ended) (Endeds 𝓤 H A mem run)) where
-    walk : Room R n₀ → Room R₂ n₁ → Room u8 n₂ → Is RBench bench (valsBench bench) → place < 2 ^ 64 → tabled (bench) (ys₀) (ys₁) ≡ true → ent 𝓤 (onEntry 𝓤 H A run-events.signature (κ₀, (κ₁, (κ₂, tt))) (q₀, (q₁, (q₂, tt))) a at) (WpFn 𝓤 H (𝓣 .C) (𝓣 .Λ) code.function (sliceVal (b₀, o₀) n₀ ∷ sliceVal (b₁, o₁) n₁ ∷ valBench bench ∷ sliceVal (b₂, o₂) n₂ ∷ vint w64 place ∷ []) Post)
+  module _ (𝓣 : Tables 𝓤 H) (fm : FmC 𝓤 H (W .laws) (𝓣 .C)) (begun-known : Triple 𝓤 (𝓣 .C #schedule·turns·begun) (Beguns 𝓤 H A mem run)) (goes-on-known : Triple 𝓤 (𝓣 .C #schedule·turns·goes-on) (GoesOns 𝓤 H A mem run)) (place-in-known : Triple 𝓤 (𝓣 .C #schedule·turns·place-in) (PlaceIns 𝓤 H A mem run)) (event-at-known : Triple 𝓤 (𝓣 .C #format·events·event-at) (EventAts 𝓤 H A mem run)) (one-event-known : Triple 𝓤 (𝓣 .C #schedule·one-event) (OneEvents 𝓤 H A mem run)) (ended-known : Triple 𝓤 (𝓣 .C #schedule·turns·ended) (Endeds 𝓤 H A mem run)) where
+    walk : Room R n₀ → Room R₂ n₁ → Room u8 n₂ → Is RBench bench (valsBench bench) → place < 2 ^ 64 → tabled bench ys₀ ys₁ ≡ true → ent 𝓤 (onEntry 𝓤 H A run-events.signature (κ₀, (κ₁, (κ₂, tt))) (q₀, (q₁, (q₂, tt))) a at) (WpFn 𝓤 H (𝓣 .C) (𝓣 .Λ) code.function (sliceVal (b₀, o₀) n₀ ∷ sliceVal (b₁, o₁) n₁ ∷ valBench bench ∷ sliceVal (b₂, o₂) n₂ ∷ vint w64 place ∷ []) Post)
     walk gn₀ gn₁ gn₂ gbench gplace h₀ =
         qed W ((‵ (flft κ₀ q₀) ⊛ (‵ (flft κ₁ q₁) ⊛ (‵ (flft κ₂ q₂) ⊛ ‵ ftrue))) ∷ ‵ (owns (MutSlice (named 0) κ₀ R ∷ MutSlice (named 1) κ₁ R₂ ∷ RBench ∷ ShrSlice (named 2) κ₂ u8 ∷ usize ∷ []) a at) ∷ []) ∵ enter ! (𝓣 .C) (𝓣 .Λ) code.function (sliceVal (b₀, o₀) n₀ ∷ sliceVal (b₁, o₁) n₁ ∷ valBench bench ∷ sliceVal (b₂, o₂) n₂ ∷ vint w64 place ∷ []) _ $
-        alloc1 ! (λ l₀. alloc1 ! (λ l₁. alloc1 ! (λ l₂. alloc1 ! (λ l₃. alloc1 ! (λ l₄. alloc1 ! (λ l₅. alloc1 ! (λ l₆. alloc1 ! (λ l₇. alloc1 ! (λ l₈. alloc1 ! (λ l₉. alloc1 ! (λ l₁₀. alloc1 ! (λ l₁₁. alloc1 ! (λ l₁₂. alloc1 ! (λ l₁₃. alloc1 ! (λ l₁₄. alloc1 ! (λ l₁₅. alloc0 ! $ params1 ! $
-        pass1 ! (init ! 28 refl (tt, (tt, (record { fits = gn₀ .0 }, tt)))) $ pass1 ! (init ! 26 refl (tt, (tt, (record { fits = gn₁ .0 }, tt)))) $ pass1 ! (init ! 24 refl (typedBench 𝓤 H A W bench gbench)) $ pass1 ! (init ! 22 refl (tt, (tt, (record { fits = gn₂ .0 }, tt)))) $ pass1 ! (init ! 20 refl (tt, record { fits = gplace })) $ pass0 ! $
-        move ! (33 ∷ 32 ∷ []) $ fsplit ! $ move ! (1 ∷ []) $ fsplit ! $ move ! (1 ∷ []) $ fsplit ! $ move ! (1 ∷ []) $ fsplit ! $ move ! (2 ∷ 1 ∷ []) $ fjoin ! $ move ! (4 ∷ []) $ split ! $ move ! (1 ∷ []) $ split ! $ move ! (1 ∷ []) $ split ! $ move ! (7 ∷ 3 ∷ 6 ∷ 2 ∷ 5 ∷ []) $
-        -- [the first slice; its token; the second; its token; the third; its token; true; what the others own; _15 (8); …; _14 (10); …; _13 (12); …; _12 (14); …; _11 (16); …; _10 (18); …; _9 (20); …; _8 (22); …; _7 (24); …; _6 (26); …; _5 (28); …; _4 (30); …; _3 (32); …; _2 (34); …; _1 (36); …; _0 (38); …]
-        calls-begun ! fm mem run begun-known bench place gbench gplace (λ P. and-then ! (load ! (from ! (stop !)) (look ! 33 refl)) (and-then ! (load ! (from ! (stop !)) (look ! 29 refl)) (no-more !))) (λ u₀ gu₀ eu₀.
-        land ! (from ! (stop !)) (init ! 26 refl (typedTurn 𝓤 H A W u₀ gu₀)) $
-        move ! (0 ∷ 2 ∷ 26 ∷ []) $
-        whiles3 W 𝓣 (λ (x : Loop). measure ys₂ (x .0)) (λ (x : Loop). ‵ (Mut R κ₀ b₀ o₀ n₀ γ₀ (x .1 .0))) (λ (x : Loop). ‵ (Mut R₂ κ₁ b₁ o₁ n₁ γ₁ (x .1 .1 .0))) (λ (x : Loop). ‵ (fat fullShare shapeTurn l₆ 0 (valTurn (x .0)))) (u₀, (ys₀, (ys₁, (gu₀, (refl, (refl, begins bench ys₂ place ys₀ ys₁ u₀ h₀ eu₀)))))) ! (λ x q′ turn. move ! (0 ∷ 3 ∷ 1 ∷ 4 ∷ 5 ∷ 6 ∷ 7 ∷ 8 ∷ 9 ∷ 10 ∷ 11 ∷ 12 ∷ 13 ∷ 14 ∷ 15 ∷ 16 ∷ 17 ∷ 18 ∷ 19 ∷ 20 ∷ 21 ∷ 22 ∷ 23 ∷ 24 ∷ 25 ∷ 26 ∷ 2 ∷ []) $
-        calls-goes-on ! fm mem run goes-on-known (x .0) (x .1 .1 .1 .0) (λ P. and-then ! (load ! (from ! (stop !)) (look ! 27 refl)) (no-more !)) (λ c ec.
+        alloc1 ! (λ l₀. alloc1 ! (λ l₁. alloc1 ! (λ l₂. alloc1 ! (λ l₃. alloc1 ! (λ l₄. alloc1 ! (λ l₅. alloc1 ! (λ l₆. alloc1 ! (λ l₇. alloc1 ! (λ l₈. alloc1 ! (λ l₉. alloc1 ! (λ l₁₀. alloc1 ! (λ l₁₁. alloc1 ! (λ l₁₂. alloc1 ! (λ l₁₃. alloc1 ! (λ l₁₄. alloc0 ! $ params1 ! $
+        pass1 ! (init ! 26 refl (tt, (tt, (record { fits = gn₀ .0 }, tt)))) $ pass1 ! (init ! 24 refl (tt, (tt, (record { fits = gn₁ .0 }, tt)))) $ pass1 ! (init ! 22 refl (typedBench 𝓤 H A W bench gbench)) $ pass1 ! (init ! 20 refl (tt, (tt, (record { fits = gn₂ .0 }, tt)))) $ pass1 ! (init ! 18 refl (tt, record { fits = gplace })) $ pass0 ! $
+        move ! (31 ∷ 30 ∷ []) $ fsplit ! $ move ! (1 ∷ []) $ fsplit ! $ move ! (1 ∷ []) $ fsplit ! $ move ! (1 ∷ []) $ fsplit ! $ move ! (2 ∷ 1 ∷ []) $ fjoin ! $ move ! (4 ∷ []) $ split ! $ move ! (1 ∷ []) $ split ! $ move ! (1 ∷ []) $ split ! $ move ! (7 ∷ 3 ∷ 6 ∷ 2 ∷ 5 ∷ []) $
+        -- [the first slice; its token; the second; its token; the third; its token; true; what the others own; _14 (8); …; _13 (10); …; _12 (12); …; _11 (14); …; _10 (16); …; _9 (18); …; _8 (20); …; _7 (22); …; _6 (24); …; _5 (26); …; _4 (28); …; _3 (30); …; _2 (32); …; _1 (34); …; _0 (36); …]
+        calls-begun ! fm mem run begun-known bench place gbench gplace (λ P. and-then ! (load ! (from ! (stop !)) (look ! 31 refl)) (and-then ! (load ! (from ! (stop !)) (look ! 27 refl)) (no-more !))) (λ u₀ gu₀ eu₀.
+        land ! (from ! (stop !)) (init ! 24 refl (typedTurn 𝓤 H A W u₀ gu₀)) $
+        move ! (0 ∷ 2 ∷ 24 ∷ []) $
+        whiles3 W 𝓣 (λ (x : Loop). measure ys₂ (x .0)) (λ (x : Loop). ‵ (Mut R κ₀ b₀ o₀ n₀ γ₀ (x .1 .0))) (λ (x : Loop). ‵ (Mut R₂ κ₁ b₁ o₁ n₁ γ₁ (x .1 .1 .0))) (λ (x : Loop). ‵ (fat fullShare shapeTurn l₆ 0 (valTurn (x .0)))) (u₀, (ys₀, (ys₁, (gu₀, (refl, (refl, begins bench ys₂ place ys₀ ys₁ u₀ h₀ eu₀)))))) ! (λ x q′ turn. move ! (0 ∷ 3 ∷ 1 ∷ 4 ∷ 5 ∷ 6 ∷ 7 ∷ 8 ∷ 9 ∷ 10 ∷ 11 ∷ 12 ∷ 13 ∷ 14 ∷ 15 ∷ 16 ∷ 17 ∷ 18 ∷ 19 ∷ 20 ∷ 21 ∷ 22 ∷ 23 ∷ 24 ∷ 2 ∷ []) $
+        calls-goes-on ! fm mem run goes-on-known (x .0) (x .1 .1 .1 .0) (λ P. and-then ! (load ! (from ! (stop !)) (look ! 25 refl)) (no-more !)) (λ c ec.
         land ! (from ! (stop !)) (init ! 16 refl (tt, tt)) $
         tests ! (load ! (from ! (stop !)) (look ! 16 refl)) (λ h.
-        calls-place-in ! fm mem run place-in-known (x .0) (x .1 .1 .1 .0) (λ P. and-then ! (load ! (from ! (stop !)) (look ! 27 refl)) (no-more !)) (λ j gj ej.
-        land ! (from ! (stop !)) (init ! 24 refl (tt, record { fits = gj })) $
-        move ! (4 ∷ 5 ∷ []) $ calls-event-at ! fm mem run event-at-known b₂ o₂ n₂ ys₂ j gj (λ P L. and-then ! (load ! (from ! (stop !)) (look ! 30 refl)) (and-then ! (load ! (from ! (stop !)) (look ! 24 refl)) (no-more !))) (λ p gp ep. move ! (2 ∷ 3 ∷ 4 ∷ 5 ∷ []) $
-        land ! (from ! (stop !)) (init ! 22 refl (typedParse 𝓤 H A W p gp)) $
-        calls-bench-in ! fm mem run bench-in-known (x .0) (x .1 .1 .1 .0) (λ P. and-then ! (load ! (from ! (stop !)) (look ! 27 refl)) (no-more !)) (λ d gd ed.
-        land ! (from ! (stop !)) (init ! 20 refl (typedBench 𝓤 H A W d gd)) $
-        assigns ! (addr ! (from ! (fld ! refl (hop ! (look-in ! 36 (sub ! 0 refl (whole !))) (stop !))))) (from ! (stop !)) (init ! 14 refl (tt, tt)) $
-        assigns ! (agg ! (and-then ! (load ! (from ! (stop !)) (look ! 14 refl)) (and-then ! (load ! (from ! (fld ! refl (stop !))) (look-in ! 36 (sub ! 1 refl (whole !)))) (no-more !)))) (from ! (stop !)) (init ! 12 refl (tt, (tt, (record { fits = gn₀ .0 }, tt)))) $
-        assigns ! (addr ! (from ! (fld ! refl (hop ! (look-in ! 34 (sub ! 0 refl (whole !))) (stop !))))) (from ! (stop !)) (init ! 10 refl (tt, tt)) $
-        assigns ! (agg ! (and-then ! (load ! (from ! (stop !)) (look ! 10 refl)) (and-then ! (load ! (from ! (fld ! refl (stop !))) (look-in ! 34 (sub ! 1 refl (whole !)))) (no-more !)))) (from ! (stop !)) (init ! 8 refl (tt, (tt, (record { fits = gn₁ .0 }, tt)))) $
-        calls-one-event ! fm mem run one-event-known b₀ o₀ n₀ b₁ o₁ n₁ (x .1 .0) (x .1 .1 .0) (x .1 .1 .1 .1 .0) (x .1 .1 .1 .1 .1 .0) gn₀ gn₁ d p gd gp (still x d ed) (λ P L₁ L₀ T. and-then ! (load ! (from ! (stop !)) (look ! 12 refl)) (and-then ! (load ! (from ! (stop !)) (look ! 8 refl)) (and-then ! (load ! (from ! (stop !)) (look ! 20 refl)) (and-then ! (load ! (from ! (stop !)) (look ! 22 refl)) (no-more !))))) (λ ms rs r len₀ len₁ gr er.
+        calls-place-in ! fm mem run place-in-known (x .0) (x .1 .1 .1 .0) (λ P. and-then ! (load ! (from ! (stop !)) (look ! 25 refl)) (no-more !)) (λ j gj ej.
+        land ! (from ! (stop !)) (init ! 22 refl (tt, record { fits = gj })) $
+        move ! (4 ∷ 5 ∷ []) $ calls-event-at ! fm mem run event-at-known b₂ o₂ n₂ ys₂ j gj (λ P L. and-then ! (load ! (from ! (stop !)) (look ! 28 refl)) (and-then ! (load ! (from ! (stop !)) (look ! 22 refl)) (no-more !))) (λ p gp ep. move ! (2 ∷ 3 ∷ 4 ∷ 5 ∷ []) $
+        land ! (from ! (stop !)) (init ! 20 refl (typedParse 𝓤 H A W p gp)) $
+        assigns ! (addr ! (from ! (fld ! refl (hop ! (look-in ! 34 (sub ! 0 refl (whole !))) (stop !))))) (from ! (stop !)) (init ! 14 refl (tt, tt)) $
+        assigns ! (agg ! (and-then ! (load ! (from ! (stop !)) (look ! 14 refl)) (and-then ! (load ! (from ! (fld ! refl (stop !))) (look-in ! 34 (sub ! 1 refl (whole !)))) (no-more !)))) (from ! (stop !)) (init ! 12 refl (tt, (tt, (record { fits = gn₀ .0 }, tt)))) $
+        assigns ! (addr ! (from ! (fld ! refl (hop ! (look-in ! 32 (sub ! 0 refl (whole !))) (stop !))))) (from ! (stop !)) (init ! 10 refl (tt, tt)) $
+        assigns ! (agg ! (and-then ! (load ! (from ! (stop !)) (look ! 10 refl)) (and-then ! (load ! (from ! (fld ! refl (stop !))) (look-in ! 32 (sub ! 1 refl (whole !)))) (no-more !)))) (from ! (stop !)) (init ! 8 refl (tt, (tt, (record { fits = gn₁ .0 }, tt)))) $
+        calls-one-event ! fm mem run one-event-known b₀ o₀ n₀ b₁ o₁ n₁ (x .1 .0) (x .1 .1 .0) (x .1 .1 .1 .1 .0) (x .1 .1 .1 .1 .1 .0) gn₀ gn₁ (x .0) p (x .1 .1 .1 .0) gp (still x) (λ P L₁ L₀ T. and-then ! (load ! (from ! (stop !)) (look ! 12 refl)) (and-then ! (load ! (from ! (stop !)) (look ! 8 refl)) (and-then ! (load ! (from ! (stop !)) (look ! 24 refl)) (and-then ! (load ! (from ! (stop !)) (look ! 20 refl)) (no-more !))))) (λ ms rs r len₀ len₁ gr er.
         land ! (from ! (stop !)) (init ! 18 refl (typedTurn 𝓤 H A W r gr)) $
-        assigns-last ! (of-opd ! (load ! (from ! (stop !)) (look ! 18 refl))) (from ! (stop !)) (store ! 26 refl (typedTurn 𝓤 H A W r gr)) $
-        forget ! 24 refl $ forget ! 22 refl $ forget ! 20 refl $ forget ! 18 refl $ forget ! 16 refl $ forget ! 14 refl $ forget ! 12 refl $ forget ! 10 refl $ forget ! 8 refl $
-        move ! (0 ∷ 2 ∷ 26 ∷ []) $
-        by ! (turn .again (r, (ms, (rs, (gr, (len₀, (len₁, onto x c ec h j ej p ep d ed r ms rs er)))))) (less x c ec h j ej p ep d ed r ms rs er))))))) (λ h. leaves ! turn $
-        calls-ended ! fm mem run ended-known (x .0) (x .1 .1 .1 .0) (λ P. and-then ! (load ! (from ! (stop !)) (look ! 27 refl)) (no-more !)) (λ r gr er.
-        land ! (from ! (stop !)) (init ! 38 refl (typedStepped 𝓤 H A W r gr)) $
-        returns ! (look ! 38 refl) $ forget ! 16 refl $ forget ! 26 refl $ forget ! 28 refl $ forget ! 30 refl $ forget ! 32 refl $ forget ! 34 refl $ forget ! 36 refl $ forget ! 38 refl $
-        move ! (38 ∷ 39 ∷ []) $ free1 ! $ move ! (36 ∷ 37 ∷ []) $ free1 ! $ move ! (34 ∷ 35 ∷ []) $ free1 ! $ move ! (32 ∷ 33 ∷ []) $ free1 ! $ move ! (30 ∷ 31 ∷ []) $ free1 ! $ move ! (28 ∷ 29 ∷ []) $ free1 ! $ move ! (26 ∷ 27 ∷ []) $ free1 ! $ move ! (24 ∷ 25 ∷ []) $ free1 ! $ move ! (22 ∷ 23 ∷ []) $ free1 ! $ move ! (20 ∷ 21 ∷ []) $ free1 ! $ move ! (18 ∷ 19 ∷ []) $ free1 ! $ move ! (16 ∷ 17 ∷ []) $ free1 ! $ move ! (14 ∷ 15 ∷ []) $ free1 ! $ move ! (12 ∷ 13 ∷ []) $ free1 ! $ move ! (10 ∷ 11 ∷ []) $ free1 ! $ move ! (8 ∷ 9 ∷ []) $ free1 ! $ free0 ! $
-        keep ! (0 ∷ 1 ∷ 2 ∷ 3 ∷ 4 ∷ 5 ∷ 7 ∷ []) $ by ! (exits r gr (x .1 .0) (x .1 .1 .0) (x .1 .1 .1 .1 .0) (x .1 .1 .1 .1 .1 .0) (ends bench ys₂ place ys₀ ys₁ (x .0) (x .1 .0) (x .1 .1 .0) (x .1 .1 .1 .1 .1 .1) (sym ec ∙ fails c h) r er)))))))))))))))))))))))
+        assigns-last ! (of-opd ! (load ! (from ! (stop !)) (look ! 18 refl))) (from ! (stop !)) (store ! 24 refl (typedTurn 𝓤 H A W r gr)) $
+        forget ! 22 refl $ forget ! 20 refl $ forget ! 18 refl $ forget ! 16 refl $ forget ! 14 refl $ forget ! 12 refl $ forget ! 10 refl $ forget ! 8 refl $
+        move ! (0 ∷ 2 ∷ 24 ∷ []) $
+        by ! (turn .again (r, (ms, (rs, (gr, (len₀, (len₁, onto x c ec h j ej p ep r ms rs er)))))) (less x c ec h j ej p ep r ms rs er)))))) (λ h. leaves ! turn $
+        calls-ended ! fm mem run ended-known (x .0) (x .1 .1 .1 .0) (λ P. and-then ! (load ! (from ! (stop !)) (look ! 25 refl)) (no-more !)) (λ r gr er.
+        land ! (from ! (stop !)) (init ! 36 refl (typedStepped 𝓤 H A W r gr)) $
+        returns ! (look ! 36 refl) $ forget ! 16 refl $ forget ! 24 refl $ forget ! 26 refl $ forget ! 28 refl $ forget ! 30 refl $ forget ! 32 refl $ forget ! 34 refl $ forget ! 36 refl $
+        move ! (36 ∷ 37 ∷ []) $ free1 ! $ move ! (34 ∷ 35 ∷ []) $ free1 ! $ move ! (32 ∷ 33 ∷ []) $ free1 ! $ move ! (30 ∷ 31 ∷ []) $ free1 ! $ move ! (28 ∷ 29 ∷ []) $ free1 ! $ move ! (26 ∷ 27 ∷ []) $ free1 ! $ move ! (24 ∷ 25 ∷ []) $ free1 ! $ move ! (22 ∷ 23 ∷ []) $ free1 ! $ move ! (20 ∷ 21 ∷ []) $ free1 ! $ move ! (18 ∷ 19 ∷ []) $ free1 ! $ move ! (16 ∷ 17 ∷ []) $ free1 ! $ move ! (14 ∷ 15 ∷ []) $ free1 ! $ move ! (12 ∷ 13 ∷ []) $ free1 ! $ move ! (10 ∷ 11 ∷ []) $ free1 ! $ move ! (8 ∷ 9 ∷ []) $ free1 ! $ free0 ! $
+        keep ! (0 ∷ 1 ∷ 2 ∷ 3 ∷ 4 ∷ 5 ∷ 7 ∷ []) $ by ! (exits r gr (x .1 .0) (x .1 .1 .0) (x .1 .1 .1 .1 .0) (x .1 .1 .1 .1 .1 .0) (ends bench ys₂ place ys₀ ys₁ (x .0) (x .1 .0) (x .1 .1 .0) (x .1 .1 .1 .1 .1 .1) (sym ec ∙ fails c h) r er))))))))))))))))))))))
 
 module _ {M : Type 1} (𝓤 : URA M) (H : Heap 𝓤) (A : Atoms 𝓤) (W : Given 𝓤 H A) (mem : Memory → SProp 𝓤) (run : Routine → Fun 𝓤) where
-  run-events-walks : (𝓣 : Tables 𝓤 H) → FmC 𝓤 H (W .laws) (𝓣 .C) → Triple 𝓤 (𝓣 .C #schedule·turns·begun) (Beguns 𝓤 H A mem run) → Triple 𝓤 (𝓣 .C #schedule·turns·goes-on) (GoesOns 𝓤 H A mem run) → Triple 𝓤 (𝓣 .C #schedule·turns·place-in) (PlaceIns 𝓤 H A mem run) → Triple 𝓤 (𝓣 .C #format·events·event-at) (EventAts 𝓤 H A mem run) → Triple 𝓤 (𝓣 .C #schedule·turns·bench-in) (BenchIns 𝓤 H A mem run) → Triple 𝓤 (𝓣 .C #schedule·one-event) (OneEvents 𝓤 H A mem run) → Triple 𝓤 (𝓣 .C #schedule·turns·ended) (Endeds 𝓤 H A mem run) → Walks 𝓤 H A run-events.ended stayed (WpFn 𝓤 H (𝓣 .C) (𝓣 .Λ) code.function) (run-events.clauses 𝓤 H A mem run)
-  run-events-walks 𝓣 fm k₀ k₁ k₂ k₃ k₄ k₅ k₆ = walked 𝓤 H A run-events.ended stayed (run-events.clauses 𝓤 H A mem run) (WpFn 𝓤 H (𝓣 .C) (𝓣 .Λ) code.function) (λ κs. (slice-vals, (slice-vals, (valsBench, (slice-vals, (uint-vals w64, tt)))))) (λ κs. (mut-slice-tells (named 0) (κs .0) R, (mut-slice-tells (named 1) (κs .1 .0) R₂, (tellsBench, (shr-slice-tells (named 2) (κs .1 .1 .0) u8, (uint-tells w64, tt))))))
+  run-events-walks : (𝓣 : Tables 𝓤 H) → FmC 𝓤 H (W .laws) (𝓣 .C) → Triple 𝓤 (𝓣 .C #schedule·turns·begun) (Beguns 𝓤 H A mem run) → Triple 𝓤 (𝓣 .C #schedule·turns·goes-on) (GoesOns 𝓤 H A mem run) → Triple 𝓤 (𝓣 .C #schedule·turns·place-in) (PlaceIns 𝓤 H A mem run) → Triple 𝓤 (𝓣 .C #format·events·event-at) (EventAts 𝓤 H A mem run) → Triple 𝓤 (𝓣 .C #schedule·one-event) (OneEvents 𝓤 H A mem run) → Triple 𝓤 (𝓣 .C #schedule·turns·ended) (Endeds 𝓤 H A mem run) → Walks 𝓤 H A run-events.ended stayed (WpFn 𝓤 H (𝓣 .C) (𝓣 .Λ) code.function) (run-events.clauses 𝓤 H A mem run)
+  run-events-walks 𝓣 fm k₀ k₁ k₂ k₃ k₄ k₅ = walked 𝓤 H A run-events.ended stayed (run-events.clauses 𝓤 H A mem run) (WpFn 𝓤 H (𝓣 .C) (𝓣 .Λ) code.function) (λ κs. (slice-vals, (slice-vals, (valsBench, (slice-vals, (uint-vals w64, tt)))))) (λ κs. (mut-slice-tells (named 0) (κs .0) R, (mut-slice-tells (named 1) (κs .1 .0) R₂, (tellsBench, (shr-slice-tells (named 2) (κs .1 .1 .0) u8, (uint-tells w64, tt))))))
       (λ κs qs bounds a g are. needs 𝓤 (tabled (a .1 .1 .0) (now (a .0)) (now (a .1 .0)) ≡ true) _ (λ l.
-      walk 𝓤 H A W mem run (κs .0) (κs .1 .0) (κs .1 .1 .0) (qs .0) (qs .1 .0) (qs .1 .1 .0) (a .0 .ptr .0) (a .0 .ptr .1) (a .1 .0 .ptr .0) (a .1 .0 .ptr .1) (a .1 .1 .1 .0 .ptr .0) (a .1 .1 .1 .0 .ptr .1) (a .0 .name) (a .1 .0 .name) (a .1 .1 .1 .0 .name) (a .0 .now) (a .1 .0 .now) (a .1 .1 .1 .0 .now) (a .1 .1 .0) (a .1 .1 .1 .1 .0) 𝓣 fm k₀ k₁ k₂ k₃ k₄ k₅ k₆ (are .0 .0 .1) (are .1 .0 .0 .1) (are .1 .1 .1 .0 .0 .1) (are .1 .1 .0) (are .1 .1 .1 .1 .0 .1) (l)))
+      walk 𝓤 H A W mem run (κs .0) (κs .1 .0) (κs .1 .1 .0) (qs .0) (qs .1 .0) (qs .1 .1 .0) (a .0 .ptr .0) (a .0 .ptr .1) (a .1 .0 .ptr .0) (a .1 .0 .ptr .1) (a .1 .1 .1 .0 .ptr .0) (a .1 .1 .1 .0 .ptr .1) (a .0 .name) (a .1 .0 .name) (a .1 .1 .1 .0 .name) (a .0 .now) (a .1 .0 .now) (a .1 .1 .1 .0 .now) (a .1 .1 .0) (a .1 .1 .1 .1 .0) 𝓣 fm k₀ k₁ k₂ k₃ k₄ k₅ (are .0 .0 .1) (are .1 .0 .0 .1) (are .1 .1 .1 .0 .0 .1) (are .1 .1 .0) (are .1 .1 .1 .1 .0 .1) (l)))
 
-run-events-meets : {M : Type 1} (𝓤 : URA M) (H : Heap 𝓤) (A : Atoms 𝓤) → Given 𝓤 H A → (mem : Memory → SProp 𝓤) (run : Routine → Fun 𝓤) (𝓣 : Tables 𝓤 H) → Triple 𝓤 (𝓣 .C #schedule·turns·begun) (Beguns 𝓤 H A mem run) → Triple 𝓤 (𝓣 .C #schedule·turns·goes-on) (GoesOns 𝓤 H A mem run) → Triple 𝓤 (𝓣 .C #schedule·turns·place-in) (PlaceIns 𝓤 H A mem run) → Triple 𝓤 (𝓣 .C #format·events·event-at) (EventAts 𝓤 H A mem run) → Triple 𝓤 (𝓣 .C #schedule·turns·bench-in) (BenchIns 𝓤 H A mem run) → Triple 𝓤 (𝓣 .C #schedule·one-event) (OneEvents 𝓤 H A mem run) → Triple 𝓤 (𝓣 .C #schedule·turns·ended) (Endeds 𝓤 H A mem run) → Meets 𝓤 H A run-events.signature (WpFn 𝓤 H (𝓣 .C) (𝓣 .Λ) code.function) (run-events.spec 𝓤 H A mem run)
-run-events-meets 𝓤 H A W mem run 𝓣 k₀ k₁ k₂ k₃ k₄ k₅ k₆ = walk-meets 𝓤 H A run-events.ended stayed W (goes-slice 𝓤 H A W 3 0 tt (plain (λ _. R)), (goes-slice 𝓤 H A W 3 1 tt (plain (λ _. R₂)), (goes-none 𝓤 H A W 3 (λ _. RBench) yes (λ κs x f. refl), (goes-none-slice 𝓤 H A W 3 (2 ∷ []) tt (plain (λ _. u8)) yes, (goes-none 𝓤 H A W 3 (λ _. usize) yes (λ κs x f. refl), tt))))) (run-events.clauses 𝓤 H A mem run)
-    (WpFn 𝓤 H (𝓣 .C) (𝓣 .Λ) code.function) (WpFn-mono 𝓤 H (W .laws) 𝓣 code.function) (run-events-walks 𝓤 H A W mem run 𝓣 (fmOf 𝓤 H (W .laws) 𝓣) k₀ k₁ k₂ k₃ k₄ k₅ k₆)
+run-events-meets : {M : Type 1} (𝓤 : URA M) (H : Heap 𝓤) (A : Atoms 𝓤) → Given 𝓤 H A → (mem : Memory → SProp 𝓤) (run : Routine → Fun 𝓤) (𝓣 : Tables 𝓤 H) → Triple 𝓤 (𝓣 .C #schedule·turns·begun) (Beguns 𝓤 H A mem run) → Triple 𝓤 (𝓣 .C #schedule·turns·goes-on) (GoesOns 𝓤 H A mem run) → Triple 𝓤 (𝓣 .C #schedule·turns·place-in) (PlaceIns 𝓤 H A mem run) → Triple 𝓤 (𝓣 .C #format·events·event-at) (EventAts 𝓤 H A mem run) → Triple 𝓤 (𝓣 .C #schedule·one-event) (OneEvents 𝓤 H A mem run) → Triple 𝓤 (𝓣 .C #schedule·turns·ended) (Endeds 𝓤 H A mem run) → Meets 𝓤 H A run-events.signature (WpFn 𝓤 H (𝓣 .C) (𝓣 .Λ) code.function) (run-events.spec 𝓤 H A mem run)
+run-events-meets 𝓤 H A W mem run 𝓣 k₀ k₁ k₂ k₃ k₄ k₅ = walk-meets 𝓤 H A run-events.ended stayed W (goes-slice 𝓤 H A W 3 0 tt (plain (λ _. R)), (goes-slice 𝓤 H A W 3 1 tt (plain (λ _. R₂)), (goes-none 𝓤 H A W 3 (λ _. RBench) yes (λ κs x f. refl), (goes-none-slice 𝓤 H A W 3 (2 ∷ []) tt (plain (λ _. u8)) yes, (goes-none 𝓤 H A W 3 (λ _. usize) yes (λ κs x f. refl), tt))))) (run-events.clauses 𝓤 H A mem run)
+    (WpFn 𝓤 H (𝓣 .C) (𝓣 .Λ) code.function) (WpFn-mono 𝓤 H (W .laws) 𝓣 code.function) (run-events-walks 𝓤 H A W mem run 𝓣 (fmOf 𝓤 H (W .laws) 𝓣) k₀ k₁ k₂ k₃ k₄ k₅)
 
 pub run-events-spec : {M : Type 1} → stated.statement M
 unfolding code.routine tablesOf
@@ -189,6 +185,5 @@ run-events-spec 𝓤 H 𝓜 𝓖 𝓡 =
     (cited 𝓤 H (GoesOns 𝓤 H (𝓖 .A) (𝓜 .mem) (𝓡 .run)) 𝓜 𝓡 code.env #schedule·turns·goes-on goes-on-def.routine code.calls-schedule·turns·goes-on (goes-on-thm.met 𝓤 H 𝓜 𝓖 𝓡))
     (cited 𝓤 H (PlaceIns 𝓤 H (𝓖 .A) (𝓜 .mem) (𝓡 .run)) 𝓜 𝓡 code.env #schedule·turns·place-in place-in-def.routine code.calls-schedule·turns·place-in (place-in-thm.met 𝓤 H 𝓜 𝓖 𝓡))
     (cited 𝓤 H (EventAts 𝓤 H (𝓖 .A) (𝓜 .mem) (𝓡 .run)) 𝓜 𝓡 code.env #format·events·event-at event-at-def.routine code.calls-format·events·event-at (event-at-thm.met 𝓤 H 𝓜 𝓖 𝓡))
-    (cited 𝓤 H (BenchIns 𝓤 H (𝓖 .A) (𝓜 .mem) (𝓡 .run)) 𝓜 𝓡 code.env #schedule·turns·bench-in bench-in-def.routine code.calls-schedule·turns·bench-in (bench-in-thm.met 𝓤 H 𝓜 𝓖 𝓡))
     (cited 𝓤 H (OneEvents 𝓤 H (𝓖 .A) (𝓜 .mem) (𝓡 .run)) 𝓜 𝓡 code.env #schedule·one-event one-event-def.routine code.calls-schedule·one-event (one-event-thm.met 𝓤 H 𝓜 𝓖 𝓡))
     (cited 𝓤 H (Endeds 𝓤 H (𝓖 .A) (𝓜 .mem) (𝓡 .run)) 𝓜 𝓡 code.env #schedule·turns·ended ended-def.routine code.calls-schedule·turns·ended (ended-thm.met 𝓤 H 𝓜 𝓖 𝓡)))

@@ -61,7 +61,7 @@ use native.Mathlib.Omega.{arith}
 use Rattle.tables.specs.Tables.{emptyRow}
 use Rattle.tables.proofs.Flow.{whiles3, tests, leaves}
 use Rattle.figures.specs.Figures.{historyOf, plusHistory}
-use Rattle.figures.specs.Parts.{Few, HistoryRoom}
+use Rattle.figures.specs.Parts.{mostWait, Few, HistoryRoom}
 use Rattle.figures.specs.HistoryLaws.{none-few, one-row, few-more, few-room, all-rows}
 use Rattle.sheets.proofs.count_rows.Key.{name as #sheets·count-rows}
 use Rattle.sheets.proofs.count_rows as count-rows
@@ -92,7 +92,7 @@ module _ {M : Type 1} (𝓤 : URA M) (H : Heap 𝓤) (A : Atoms 𝓤) (W : Given
 
   -- so many rows were counted, and no total is above what so many rows can have
   abbrev Inv : ℕ → History → Type 0
-  Inv i h = (i ≤ c) × ((h ≡ historyOf (take i ys)) × Few (65535 * i) h)
+  Inv i h = (i ≤ c) × ((h ≡ historyOf (take i ys)) × Few (mostWait * i) h)
 
   -- the counter i and what was counted
   abbrev State : Type 0
@@ -102,10 +102,10 @@ module _ {M : Type 1} (𝓤 : URA M) (H : Heap 𝓤) (A : Atoms 𝓤) (W : Given
   start h e = (omega arith, (e, none-few h e))
 
   -- one more row
-  counted : c ≤ n → (i : ℕ) (h k r : History) → Inv i h → i < c → (k ≡ historyOf (getD ys i emptyRow ∷ [])) × Few 65535 k → r ≡ plusHistory h k → Inv (i + 1) r
+  counted : c ≤ n → (i : ℕ) (h k r : History) → Inv i h → i < c → (k ≡ historyOf (getD ys i emptyRow ∷ [])) × Few mostWait k → r ≡ plusHistory h k → Inv (i + 1) r
   counted le i h k r (l, (e, f)) more (ek, fk) er = (omega arith, (one-row ys i h k r (omega arith) e ek er, few-more i h k r f fk er))
 
-  room : c < 2 ^ 16 → (i : ℕ) (h k : History) → Inv i h → i < c → Few 65535 k → HistoryRoom h k
+  room : c < 2 ^ 16 → (i : ℕ) (h k : History) → Inv i h → i < c → Few mostWait k → HistoryRoom h k
   room g i h k (l, (e, f)) more fk = few-room i h k (omega arith) f fk
 
   over : (i : ℕ) (h : History) → Inv i h → c ≤ i → h ≡ historyOf (take c ys)

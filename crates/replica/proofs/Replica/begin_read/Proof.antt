@@ -28,8 +28,8 @@ add-t9-2 c =
     let r = c .before .before .before .before .args .self in
     omega (arith, fits-rid 7 r (read-inside r _ _ (c .before .before .before .read-refusal .ensures) (c .before .before .if1 .left)))
 
-start-pair-requires : tie.Need-start-pair-requires
-start-pair-requires c κs = search needs
+nothing-requires : tie.Need-nothing-requires
+nothing-requires c κs = search needs
 
 move-to-requires : tie.Need-move-to-requires
 move-to-requires c κs = search needs
@@ -43,7 +43,7 @@ accept-requires c κs = search needs
 returns-2 : tie.Need-returns-2
 unfolding readBegun readRule
 returns-2 c =
-    rw (c .accept .ensures, c .before .broadcast .ensures, c .before .before .move-to .ensures, c .before .before .before .start-pair .ensures)
+    rw (c .accept .ensures, c .before .broadcast .ensures, c .before .before .move-to .ensures, c .before .before .before .nothing .ensures)
     (rule-by _ _ _ _ (c .before .before .before .before .before .before .before .read-refusal .ensures) (c .before .before .before .before .before .before .if1 .left))
 
 pub begin-read-spec : {M : Type 1} → statement M
@@ -55,7 +55,7 @@ begin-read-spec =
     returns
     add-t9
     add-t9-2
-    start-pair-requires
+    nothing-requires
     move-to-requires
     broadcast-requires
     accept-requires

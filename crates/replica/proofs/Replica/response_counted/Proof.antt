@@ -18,8 +18,8 @@ with-requires c κs = search needs
 is-majority-requires : tie.Need-is-majority-requires
 is-majority-requires c κs = search needs
 
-add-t14 : tie.Need-add-t14
-add-t14 c = search needs
+add-t15 : tie.Need-add-t15
+add-t15 c = search needs
 
 move-to-requires : tie.Need-move-to-requires
 move-to-requires c κs = search needs
@@ -39,9 +39,10 @@ accept-requires-2 c κs = search needs
 returns : tie.Need-returns
 unfolding responseCounted
 returns c =
-    let a = c .before .before .before .before .before .before .before .before .args in
-    let m : leb (majorityOf (a .n)) (counted (joined (a .self .repliers) (a .from .0))) ≡ true = ap (λ s. leb (majorityOf (a .n)) (counted s)) (sym (c .before .before .before .before .before .before .with .ensures)) ∙ sym (c .before .before .before .before .before .is-majority .ensures) ∙ c .before .before .before .before .if1 .taken in
-    rw (c .accept .ensures, c .before .broadcast .ensures, c .before .before .move-to .ensures, c .before .before .before .before .before .before .before .after-receiving .ensures) (picks-first _ _ _ m)
+    let t = c .before .before .before .before .before in
+    let a = t .before .before .before .before .args in
+    let m : leb (majorityOf (a .n)) (counted (joined (a .self .repliers) (a .from .0))) ≡ true = ap (λ s. leb (majorityOf (a .n)) (counted s)) (sym (t .before .before .with .ensures)) ∙ sym (t .before .is-majority .ensures) ∙ t .if1 .taken in
+    rw (c .accept .ensures, c .before .broadcast .ensures, c .before .before .move-to .ensures, t .before .before .before .after-receiving .ensures) (picks-first _ _ _ m)
 
 returns-2 : tie.Need-returns-2
 unfolding responseCounted
@@ -57,7 +58,7 @@ response-counted-spec =
     after-receiving-requires
     with-requires
     is-majority-requires
-    add-t14
+    add-t15
     move-to-requires
     broadcast-requires
     accept-requires

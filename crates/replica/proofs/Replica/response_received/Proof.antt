@@ -36,8 +36,8 @@ returns-2 c =
     let a = c .before .before .before .before .before .before .before .args in
     c .accept .ensures ∙ sym (ap (λ k. responseTaken k (a .self) (a .n) (a .register) (a .from) (a .time) (a .pair)) (sym (c .before .before .before .counts-response .ensures) ∙ c .before .enum-told .given .1)) ∙ rule-by _ _ _ _ (c .before .before .before .before .before .before .response-refusal .ensures) (c .before .before .before .before .before .if1 .left)
 
-newer-of-requires : tie.Need-newer-of-requires
-newer-of-requires c κs = search needs
+with-response-requires : tie.Need-with-response-requires
+with-response-requires c κs = search needs
 
 response-counted-requires : tie.Need-response-counted-requires
 response-counted-requires c κs =
@@ -49,7 +49,7 @@ returns-3 : tie.Need-returns-3
 unfolding responseReceived responseRule
 returns-3 c =
     let a = c .before .before .before .before .before .before .before .before .before .args in
-    c .response-counted .ensures ∙ ap (responseCounted (a .self) (a .n) (a .register) (a .from) (a .time) _) (c .before .newer-of .ensures) ∙ sym (ap (λ k. responseTaken k (a .self) (a .n) (a .register) (a .from) (a .time) (a .pair)) (sym (c .before .before .before .before .before .counts-response .ensures) ∙ c .before .before .before .row .given .1)) ∙ rule-by _ _ _ _ (c .before .before .before .before .before .before .before .before .response-refusal .ensures) (c .before .before .before .before .before .before .before .if1 .left)
+    c .response-counted .ensures ∙ ap (responseCounted (a .self) (a .n) (a .register) (a .from) (a .time) _) (c .before .with-response .ensures) ∙ sym (ap (λ k. responseTaken k (a .self) (a .n) (a .register) (a .from) (a .time) (a .pair)) (sym (c .before .before .before .before .before .counts-response .ensures) ∙ c .before .before .before .row .given .1)) ∙ rule-by _ _ _ _ (c .before .before .before .before .before .before .before .before .response-refusal .ensures) (c .before .before .before .before .before .before .before .if1 .left)
 
 pub response-received-spec : {M : Type 1} → statement M
 response-received-spec =
@@ -63,6 +63,6 @@ response-received-spec =
     enum-told
     accept-requires
     returns-2
-    newer-of-requires
+    with-response-requires
     response-counted-requires
     returns-3)

@@ -1,5 +1,6 @@
 -- `replica::refusals::stored_fits` meets its contract.
 use Rattle.words.specs.RangeLaws.{within-least, within-most, and-when, and-unless}
+use Rattle.words.specs.Limits.{mostTime}
 use Rattle.words.specs.Ranges.{pairFits}
 use mathlib.Core.Path.{sym, ap, _∙_}
 use borrow.Author.Needs.{needs}
@@ -20,7 +21,7 @@ pair-fits-requires c κs = search needs
 returns : tie.Need-returns
 returns c =
     let w = sym (c .before .before .before .is-within .ensures) ∙ c .before .before .if1 .taken in
-    c .pair-fits .ensures ∙ ap (pairFits 12000 7) (c .before .pair-of .ensures) ∙ sym (and-when _ _ w)
+    c .pair-fits .ensures ∙ ap (pairFits mostTime 7) (c .before .pair-of .ensures) ∙ sym (and-when _ _ w)
 
 returns-2 : tie.Need-returns-2
 returns-2 c =

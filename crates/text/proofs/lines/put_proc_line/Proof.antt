@@ -15,8 +15,8 @@ put-word-requires c κs = search needs
 put-small-requires : tie.Need-put-small-requires
 put-small-requires c κs = search needs
 
-put-small-requires-2 : tie.Need-put-small-requires-2
-put-small-requires-2 c κs = search needs
+put-time-requires : tie.Need-put-time-requires
+put-time-requires c κs = search needs
 
 put-state-requires : tie.Need-put-state-requires
 put-state-requires c κs = search needs
@@ -35,7 +35,7 @@ returns c =
     let w2 = w3 .before .before .before .before in
     let w1 = w2 .before .before .before .before in
     asText refl (omega arith)
-    (andThen (w1 .put-word .ensures) (andThen (w2 .put-small .ensures) (andThen (w3 .put-small2 .ensures) (andThen (w4 .put-state .ensures) (w5 .put-byte .ensures)))))
+    (andThen (w1 .put-word .ensures) (andThen (w2 .put-small .ensures) (andThen (w3 .put-time .ensures) (andThen (w4 .put-state .ensures) (w5 .put-byte .ensures)))))
 
 pub put-proc-line-spec : {M : Type 1} → statement M
 put-proc-line-spec =
@@ -44,7 +44,7 @@ put-proc-line-spec =
     slice-aggregate-put-word
     put-word-requires
     put-small-requires
-    put-small-requires-2
+    put-time-requires
     put-state-requires
     put-byte-requires
     same-length

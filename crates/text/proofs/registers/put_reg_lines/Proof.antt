@@ -34,7 +34,10 @@ add-put-reg-line : tie.Need-add-put-reg-line Inv-loop μ-loop
 add-put-reg-line c = search needs
 
 put-reg-line-requires : tie.Need-put-reg-line-requires Inv-loop μ-loop
-put-reg-line-requires c κs = search needs
+put-reg-line-requires c κs =
+    let l = c .before .before .before in
+    let s = l .before .before .before in
+    (search needs, s .pre .1 .1 (l .loop .i) (c .before .before .loop-test .taken))
 
 add-i : tie.Need-add-i Inv-loop μ-loop
 add-i c = search needs

@@ -1,12 +1,16 @@
 -- `text::replicas::put_proc_lines` meets its contract.
 use Prim.Native.Nat.{_+_, _≤_, _-_, _*_}
-use mathlib.Core.Path.{_≡_, refl, ap}
+use mathlib.Core.Path.{_≡_, refl, ap, subst}
 use native.Mathlib.Omega.{arith}
 use lib.ListN.{length, getD}
 use denote.Ref.{now}
 use borrow.Author.Needs.{needs}
+use Rattle.replica.specs.declared.Replica.{Replica}
+use Rattle.state.specs.EveryLaws.{getD-default}
+use Rattle.state.specs.State.{freshReplica}
 use Rattle.text.specs.Lines.{procTexts}
 use Rattle.text.specs.LineLaws.{one-proc, proc-is}
+use Rattle.text.specs.Short.{Short}
 use Rattle.text.specs.Written.{Wrote}
 use Rattle.text.specs.WrittenLaws.{nothing, andThen, asText}
 use Rattle.text.proofs.replicas.put_proc_lines.Statement.{statement}
@@ -34,7 +38,10 @@ add-put-proc-line : tie.Need-add-put-proc-line Inv-loop μ-loop
 add-put-proc-line c = search needs
 
 put-proc-line-requires : tie.Need-put-proc-line-requires Inv-loop μ-loop
-put-proc-line-requires c κs = search needs
+put-proc-line-requires c κs =
+    let l = c .before .before .before in
+    let s = l .before .before in
+    (search needs, subst (λ (r : Replica). Short (r .clock .0)) (getD-default (s .args .t3) (l .loop .i) freshReplica _ (omega arith)) (s .pre .1 .1 (l .loop .i) (c .before .before .loop-test .taken)))
 
 add-i : tie.Need-add-i Inv-loop μ-loop
 add-i c = search needs

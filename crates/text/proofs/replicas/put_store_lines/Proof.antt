@@ -1,12 +1,16 @@
 -- `text::replicas::put_store_lines` meets its contract.
 use Prim.Native.Nat.{_≤_, _-_, _*_}
-use mathlib.Core.Path.{_≡_, refl, ap}
+use mathlib.Core.Path.{_≡_, refl, ap, subst}
 use native.Mathlib.Omega.{arith}
 use lib.ListN.{length}
 use denote.Ref.{now}
 use borrow.Author.Needs.{needs}
+use Rattle.replica.specs.declared.Replica.{Replica}
+use Rattle.state.specs.EveryLaws.{getD-default}
+use Rattle.state.specs.State.{freshReplica}
 use Rattle.text.specs.LineLaws.{one-store}
 use Rattle.text.specs.Lines.{storeTexts}
+use Rattle.text.specs.Short.{ShortPairs}
 use Rattle.text.specs.Written.{Wrote}
 use Rattle.text.specs.WrittenLaws.{nothing, andThen, asText}
 use Rattle.text.proofs.replicas.put_store_lines.Statement.{statement}
@@ -34,7 +38,11 @@ add-put-reg-lines : tie.Need-add-put-reg-lines Inv-loop μ-loop
 add-put-reg-lines c = search needs
 
 put-reg-lines-requires : tie.Need-put-reg-lines-requires Inv-loop μ-loop
-put-reg-lines-requires c κs = search needs
+put-reg-lines-requires c κs =
+    let l = c .before .before .before in
+    let s = l .before .before in
+    let same = getD-default (s .args .t3) (l .loop .i) freshReplica _ (omega arith) in
+    (search needs, (search needs, subst (λ (r : Replica). ShortPairs (s .args .m) (r .pairs)) same (s .pre .1 .1 (l .loop .i) (c .before .before .loop-test .taken))))
 
 add-i : tie.Need-add-i Inv-loop μ-loop
 add-i c = search needs

@@ -18,8 +18,8 @@ returns c =
     let s = w1 .before .before .before .before in
     asText (unanswered (s .args .time) (w1 .before .before .if1 .taken)) (omega arith) (w1 .put-dash .ensures)
 
-put-small-requires : tie.Need-put-small-requires
-put-small-requires c κs = search needs
+put-time-requires : tie.Need-put-time-requires
+put-time-requires c κs = search needs
 
 same-length-2 : tie.Need-same-length-2
 same-length-2 c = search needs
@@ -28,9 +28,9 @@ returns-2 : tie.Need-returns-2
 returns-2 c =
     let w1 = c .before .before in
     let s = w1 .before .before .before .before in
-    asText (was-answered (s .args .time) (w1 .before .before .if1 .left)) (omega arith) (w1 .put-small .ensures)
+    asText (was-answered (s .args .time) (w1 .before .before .if1 .left)) (omega arith) (w1 .put-time .ensures)
 
 pub put-answered-spec : {M : Type 1} → statement M
 put-answered-spec =
     tie.close
-    (tie.spec put-dash-requires same-length returns put-small-requires same-length-2 returns-2)
+    (tie.spec put-dash-requires same-length returns put-time-requires same-length-2 returns-2)

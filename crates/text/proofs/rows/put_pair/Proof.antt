@@ -6,14 +6,14 @@ use Rattle.text.proofs.Signs.{passed-pair}
 use Rattle.text.proofs.rows.put_pair.Statement.{statement}
 use Rattle.text.proofs.rows.put_pair.Tie as tie
 
-put-small-requires : tie.Need-put-small-requires
-put-small-requires c κs = search needs
+put-time-requires : tie.Need-put-time-requires
+put-time-requires c κs = search needs
 
 cast-put-small : tie.Need-cast-put-small
 cast-put-small c = search needs
 
-put-small-requires-2 : tie.Need-put-small-requires-2
-put-small-requires-2 c κs = search needs
+put-small-requires : tie.Need-put-small-requires
+put-small-requires c κs = search needs
 
 put-value-requires : tie.Need-put-value-requires
 put-value-requires c κs = search needs
@@ -28,15 +28,15 @@ returns c =
     let w1 = w2 .before .before .before .before .before in
     let s = w1 .before .before .before in
     asText (passed-pair (s .args .stamp) (s .args .value) (s .fits .value)) (omega arith)
-    (andThen (w1 .put-small .ensures) (andThen (w2 .put-small2 .ensures) (w3 .put-value .ensures)))
+    (andThen (w1 .put-time .ensures) (andThen (w2 .put-small .ensures) (w3 .put-value .ensures)))
 
 pub put-pair-spec : {M : Type 1} → statement M
 put-pair-spec =
     tie.close
     (tie.spec
-    put-small-requires
+    put-time-requires
     cast-put-small
-    put-small-requires-2
+    put-small-requires
     put-value-requires
     same-length
     returns)

@@ -12,8 +12,8 @@ cast-put-small c = search needs
 put-small-requires : tie.Need-put-small-requires
 put-small-requires c κs = search needs
 
-put-small-requires-2 : tie.Need-put-small-requires-2
-put-small-requires-2 c κs = search needs
+put-time-requires : tie.Need-put-time-requires
+put-time-requires c κs = search needs
 
 put-answered-requires : tie.Need-put-answered-requires
 put-answered-requires c κs = search needs
@@ -35,7 +35,7 @@ returns c =
     let w2 = w3 .before .before .before .before in
     let w1 = w2 .before .before .before .before in
     asText refl (omega arith)
-    (andThen (w1 .put-small .ensures) (andThen (w2 .put-small2 .ensures) (andThen (w3 .put-answered .ensures) (andThen (w4 .put-ending .ensures) (w5 .put-byte .ensures)))))
+    (andThen (w1 .put-small .ensures) (andThen (w2 .put-time .ensures) (andThen (w3 .put-answered .ensures) (andThen (w4 .put-ending .ensures) (w5 .put-byte .ensures)))))
 
 pub put-row-rest-spec : {M : Type 1} → statement M
 put-row-rest-spec =
@@ -43,7 +43,7 @@ put-row-rest-spec =
     (tie.spec
     cast-put-small
     put-small-requires
-    put-small-requires-2
+    put-time-requires
     put-answered-requires
     put-ending-requires
     put-byte-requires

@@ -13,7 +13,9 @@ put-proc-lines-requires : tie.Need-put-proc-lines-requires
 put-proc-lines-requires c κs = search needs
 
 put-store-lines-requires : tie.Need-put-store-lines-requires
-put-store-lines-requires c κs = search needs
+put-store-lines-requires c κs =
+    let s = c .before .before .before .before .before .before .before .before .before .before .before .before in
+    (search needs, (search needs, s .pre .0 .1 .1 .1))
 
 put-count-line-requires : tie.Need-put-count-line-requires
 put-count-line-requires c κs = search needs
