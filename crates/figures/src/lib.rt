@@ -1,4 +1,5 @@
 // The figures of a monthly sheet, by value: what one row comes to, sums within 64 bits, what one schedule adds, and a sheet with one schedule more.
+// A sheet lies in memory as C lays it out: hosts hold it between schedules.
 ghost use mathlib.Core.Path.{_≡_};
 ghost use Rattle.figures.specs.Figures.{emptySheet};
 
@@ -8,12 +9,14 @@ pub mod sums;
 pub mod totals;
 
 // The operations of one kind.
+#[repr(C)]
 pub struct Operations {
     pub begun: u64,
     pub completed: u64,
 }
 
 // Response time minus invocation time over completed operations. The least and the greatest are 0 where the count is.
+#[repr(C)]
 pub struct Waits {
     pub count: u64,
     pub sum: u64,
@@ -22,6 +25,7 @@ pub struct Waits {
 }
 
 // What the rows of schedules come to.
+#[repr(C)]
 pub struct History {
     pub reads: Operations,
     pub writes: Operations,
@@ -29,6 +33,7 @@ pub struct History {
 }
 
 // What the events of schedules come to.
+#[repr(C)]
 pub struct Traffic {
     pub sent: u64,
     pub delivered: u64,
@@ -44,6 +49,7 @@ pub struct Entry {
 }
 
 // All schedules so far; how many were refused by file by each number, under 0 those that were not; and what those come to.
+#[repr(C)]
 pub struct Sheet {
     pub schedules: u64,
     pub files: [u64; 32],
@@ -52,6 +58,7 @@ pub struct Sheet {
 }
 
 // The reply to a schedule: 0 and the sheet with it, or 28 and the sheet as it was.
+#[repr(C)]
 pub struct Added {
     pub refusal: u8,
     pub sheet: Sheet,

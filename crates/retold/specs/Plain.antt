@@ -2,7 +2,7 @@
 use Prim.Native.Nat.{ℕ, _≤_}
 use mathlib.Core.Path.{_≡_}
 use mathlib.Core.List.{List, [], _∷_, _++_}
-use lib.ListN.{length}
+use lib.ListN.{length, take}
 use Rattle.tables.specs.Tables.{laidAt}
 use Rattle.text.specs.Printed.{field}
 use Rattle.state.specs.declared.Event.{Event}
@@ -10,6 +10,7 @@ use Rattle.format.specs.Format.{fileRefusal}
 use Rattle.writing.specs.Bytes.{fileBytes}
 use Rattle.writing.specs.Held.{Bytes}
 use Rattle.writing.specs.Reading.{readOut}
+use Rattle.buffer.specs.Printing.{printReply, printLeft}
 use Rattle.showing.specs.Shown.{ended, shown}
 use Rattle.script.specs.Lines.{lines, uncommented, words}
 use Rattle.composing.specs.declared.Composed.the-variants.{File}
@@ -41,3 +42,9 @@ ComposedBack = (bytes : List ℕ) → Bytes bytes → fileRefusal bytes ≡ 0 �
 -- showing what `compose` made gives the text without comments and spare blanks: of each text that stands for a schedule
 abbrev pub ShownBack : Type 0
 ShownBack = (text : List ℕ) (n m : ℕ) (events : List Event) → scriptOf text ≡ script n m events → shown (fileBytes n m events) ≡ plain text
+
+-- the same of what the two functions reply and leave: the bytes that `compose` says it made, from the front of its output, shown into a page that is long enough
+abbrev pub ShownAgain : Type 0
+ShownAgain = (text out page : List ℕ) (size : ℕ) → composeReply text (length out) ≡ File size → 393216 ≤ length page
+    → (printReply 393216 (shown (take size (composeLeft text out))) (length page) ≡ record { refusal = 0; size = length (plain text) })
+    × (printLeft 393216 (shown (take size (composeLeft text out))) page ≡ laidAt 0 (plain text) page)

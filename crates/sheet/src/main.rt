@@ -3,6 +3,9 @@ use figures::Sheet;
 use libc::STDERR_FILENO;
 use libc::STDOUT_FILENO;
 
+// A thousand replays take long enough to ask how far it is.
+const FILES_A_LINE: usize = 1000;
+
 // The sheet after a file, and whether the file could be read.
 struct Turn {
     sheet: Sheet,
@@ -57,6 +60,16 @@ fn add_named(sheet: Sheet, i: usize) -> Turn {
     turn
 }
 
+// Over many files a line now and then says how far it is.
+fn tell(done: usize, all: usize) {
+    if done % FILES_A_LINE == 0 {
+        io::print_decimal(STDERR_FILENO, done as u64);
+        io::write_all(STDERR_FILENO, b" of ");
+        io::print_decimal(STDERR_FILENO, all as u64);
+        io::write_all(STDERR_FILENO, b" files\n");
+    }
+}
+
 // Argument 0 is the program.
 fn add_all(arguments: usize) -> Work {
     let mut sheet = figures::empty_sheet();
@@ -68,6 +81,7 @@ fn add_all(arguments: usize) -> Work {
         if !turn.read {
             unread += 1;
         }
+        tell(i, arguments - 1);
         i += 1;
     }
     Work {

@@ -25,6 +25,12 @@ add-named-requires c κs = search needs
 add-unread : tie.Need-add-unread Inv-loop μ-loop
 add-unread c = search needs
 
+sub-tell : tie.Need-sub-tell Inv-loop μ-loop
+sub-tell c = search needs
+
+tell-requires : tie.Need-tell-requires Inv-loop μ-loop
+tell-requires c κs = search needs
+
 add-i : tie.Need-add-i Inv-loop μ-loop
 add-i c = search needs
 
@@ -32,7 +38,7 @@ loop-less : tie.Need-loop-less Inv-loop μ-loop
 loop-less c = search needs
 
 loop-again : tie.Need-loop-again Inv-loop μ-loop
-loop-again c = ⊎-elim (λ w. omega arith) (λ w. omega arith) (c .if1 .came)
+loop-again c = ⊎-elim (λ w. omega arith) (λ w. omega arith) (c .before .if1 .came)
 
 returns : tie.Need-returns Inv-loop μ-loop
 returns c = search needs
@@ -47,6 +53,8 @@ add-all-spec =
     loop-holds
     add-named-requires
     add-unread
+    sub-tell
+    tell-requires
     add-i
     loop-less
     loop-again
