@@ -1,5 +1,6 @@
 crate='advance'; lib='tables'; fn='act'; locals=11
-named=True
+named=True; ends=True
+cells=['Stepped', '[]', '[]', 'Bench', 'Event', 'Known', 'Work', '&', '[]', '&', '[]']
 params=[('t','mut'),('h','mut₂'),('bench','R-Bench'),('event','R-Event'),('k','R-Known')]
 result='Stepped'
 callees=[('plans.work_of','WorkOfs','advance'),('conclude','Concludes','advance')]

@@ -1,5 +1,6 @@
 crate='advance'; lib='tables'; fn='advance'; locals=12
-named=True
+named=True; ends=True
+cells=['Stepped', '[]', '[]', 'Bench', 'Event', 'Asked', '&', '[]', '&', '[]', '&', '[]']
 params=[('t','mut'),('h','mut₂'),('bench','R-Bench'),('event','R-Event')]
 result='Stepped'
 callees=[('ask','Asks','advance'),('pursue','Pursues','advance')]

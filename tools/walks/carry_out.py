@@ -1,5 +1,6 @@
 root='.'
-crate='schedule'; lib='tables'; fn='carry_out'; locals=12
+crate='schedule'; lib='tables'; fn='carry_out'; locals=12; ends=True
+cells=['Turn', '[]', '[]', 'Bench', 'Parse', 'Event', 'usize', 'Stepped', '&', '[]', '&', '[]']
 params=[('messages','mut'),('rows','mut₂'),('bench','Bench'),('parse','Parse')]
 result='Turn'
 structs={'Bench':('Rattle.state.specs.declared.Bench','Rattle.advance.proofs.Benches'),'Stepped':('Rattle.state.specs.declared.Stepped','Rattle.advance.proofs.Steppeds'),'Event':('Rattle.state.specs.declared.Event','Rattle.advance.proofs.Events'),'Parse':('Rattle.format.specs.declared.Parse','Rattle.schedule.proofs.Parses'),'Turn':('Rattle.schedule.specs.declared.Turn','Rattle.schedule.proofs.OfTurn')}

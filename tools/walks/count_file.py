@@ -1,5 +1,6 @@
 root='.'
-crate='sheets'; lib='tables'; fn='count_file'; locals=11
+crate='sheets'; lib='tables'; fn='count_file'; locals=11; ends=True
+cells=['Entry','[]','=(tyArray shape₂ 1024)','Stepped','u16','History','=shape₂','&','[]','&','[]']
 params=[('bytes','shr8')]
 result='Entry'
 structs={'Entry':('Rattle.figures.specs.declared.Entry','Rattle.sheets.proofs.OfEntry'),'History':('Rattle.figures.specs.declared.History','Rattle.sheets.proofs.OfHistory'),'Stepped':('Rattle.state.specs.declared.Stepped','Rattle.advance.proofs.Steppeds')}
@@ -14,7 +15,7 @@ use denote.Array.{Array, arrayVal, array-repeat, array-lawful}
 use denote.Laws.{shows}
 use denote.Steps.{peeks}
 use Rattle.tables.specs.Tables.{emptyRow}
-use Rattle.tables.proofs.Rows.{copies as copies₂, lawful as lawful₂}
+use Rattle.tables.proofs.Rows.{shape as shape₂, copies as copies₂, lawful as lawful₂}
 use Rattle.order.proofs.Local.{lends-local, local-back}
 use Rattle.order.proofs.Big.{big-lit}
 use Rattle.replaying.proofs.Callees.{RunHistory, calls-run-history}

@@ -1,5 +1,6 @@
 crate='advance'; lib='tables'; fn='pursue'; locals=13
-named=True
+named=True; ends=True
+cells=['Stepped', '[]', '[]', 'Bench', 'Event', 'Asked', 'Known', '&', '[]', '&', '[]', '&', '[]']
 params=[('t','mut'),('h','mut₂'),('bench','R-Bench'),('event','R-Event'),('u','R-Asked')]
 result='Stepped'
 callees=[('learn','Learns','advance'),('act','Acts','advance')]

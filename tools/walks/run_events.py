@@ -1,5 +1,6 @@
 root='.'
-crate='schedule'; lib='tables'; fn='run_events'; locals=15; loop=True
+crate='schedule'; lib='tables'; fn='run_events'; locals=15; loop=True; ends=True
+cells=['Stepped', '[]', '[]', 'Bench', '[]', 'usize', 'Turn', 'usize', 'Parse', 'Turn', 'bool', '&', '[]', '&', '[]']
 params=[('messages','mut'),('rows','mut₂'),('bench','Bench'),('bytes','shr8'),('place','usize')]
 result='Stepped'
 structs={'Bench':('Rattle.state.specs.declared.Bench','Rattle.advance.proofs.Benches'),'Stepped':('Rattle.state.specs.declared.Stepped','Rattle.advance.proofs.Steppeds'),'Event':('Rattle.state.specs.declared.Event','Rattle.advance.proofs.Events'),'Parse':('Rattle.format.specs.declared.Parse','Rattle.schedule.proofs.Parses'),'Turn':('Rattle.schedule.specs.declared.Turn','Rattle.schedule.proofs.OfTurn')}

@@ -17,11 +17,14 @@ for description in tools/walks/*.py; do
     fi
 done
 python3 tools/walks/fill_order.py . || exit 1
+for crate in advance schedule sheets; do
+    python3 tools/walks/ends.py "$crate" || exit 1
+done
 rt fmt >/dev/null || exit 1
 cd "$OLDPWD" || exit 1
 [ "$where" != . ] || exit 0
 same=0 differ=0
-for proof in $(grep -lr '^-- Written by tools/walks/' "$where"/crates --include=Proof.antt); do
+for proof in $(grep -lr '^-- Written by tools/walks/' "$where"/crates --include=Proof.antt --include=Ends.antt); do
     own=${proof#"$where"/}
     if cmp -s "$proof" "$own"; then same=$((same + 1)); else differ=$((differ + 1)); echo "$own differs"; fi
 done

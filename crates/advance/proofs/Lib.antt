@@ -6,6 +6,7 @@ pub mod Callees
 pub mod Events
 pub mod Founds
 pub mod Knowns
+pub mod Ends
 pub mod Line
 pub mod Soughts
 pub mod Steppeds

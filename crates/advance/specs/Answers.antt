@@ -14,17 +14,18 @@ use Rattle.words.specs.declared.Rid.{Rid}
 use Rattle.words.specs.declared.Time.{Time}
 use Rattle.words.specs.Quorum.{joined, counted, majorityOf}
 use Rattle.replica.specs.declared.Answer.{Answer}
-use Rattle.replica.specs.declared.ResponseCounts.{ResponseCounts}
+use Rattle.replica.specs.declared.Gathered.{Gathered}
 use Rattle.replica.specs.declared.ResponseCounts.the-variants.{Not, For}
 use Rattle.replica.specs.declared.AckCounts.the-variants.{Not as NoAck, For as AckFor}
 use Rattle.replica.specs.declared.Ended.{Ended}
-use Rattle.replica.specs.declared.Ended.the-variants.{Pending, At}
+use Rattle.replica.specs.declared.Ended.the-variants.{Pending, Query as Queried, At}
 use Rattle.replica.specs.declared.Phase.{Phase}
 use Rattle.replica.specs.declared.Phase.the-variants.{Idle, Querying, Updating}
 use Rattle.replica.specs.declared.Replica.{Replica}
 use Rattle.replica.specs.declared.Sends.the-variants.{Nothing}
 use Rattle.replica.specs.Handlers.{refused, readRefusal, readRule, readBegun, writeRefusal, writeRule, writeBegun, queryRefusal, queryRule, queryReceived, updateRefusal, updateRule, updateReceived}
 use Rattle.replica.specs.Handlers.{responseRefusal, responseRule, responseReceived, responseCounted, responseCounts, responseTaken, ackRefusal, ackRule, ackReceived, ackCounted, ackCounts, ackTaken, crashRefusal, crashRule, crashed}
+use Rattle.replica.specs.Gathering.{gatheredWith}
 use Rattle.replica.specs.Numbers.{sentBy}
 use Rattle.decide.specs.Plan.{answerBy, answerTo}
 use Rattle.advance.specs.Steps.{Mild}
@@ -55,12 +56,16 @@ pub crash-silent : (r : Replica) → crashed r .sends ≡ Nothing
 unfolding crashed crashRule
 crash-silent r = unless (λ (a : Answer). a .sends ≡ Nothing) (eqb (crashRefusal r) 0) (crashRefusal r) r (crashRule r) refl refl
 
--- an operation ends only while its replica waits
+abbrev pub Waits : Phase → Type 0
+Waits Idle = ⊥
+Waits (Querying number gathered) = Unit {0}
+Waits (Updating number sent) = Unit {0}
+
+-- a phase ends only while the replica waits
 abbrev pub Waited : Ended → Phase → Type 0
 Waited Pending phase = Unit {0}
-Waited (At time pair) Idle = ⊥
-Waited (At time pair) (Querying number gathered) = Unit {0}
-Waited (At time pair) (Updating number sent) = Unit {0}
+Waited (Queried who) phase = Waits phase
+Waited (At time pair who) phase = Waits phase
 
 -- of a message received
 abbrev Right : Phase → Answer → Type 0
@@ -75,16 +80,24 @@ module _ (r : Replica) (n asked : ℕ) (from : Pid) (time : Time) (rid : Rid) (n
   unfolding updateReceived updateRule
   update-right x pair = unless (Right (r .phase)) (eqb (updateRefusal r from time rid x pair) 0) (updateRefusal r from time rid x pair) r (updateRule r from time rid x pair) (near, tt) (tt, tt)
 
-  response-taken : (c : ResponseCounts) (pair : Pair) → Right (r .phase) (responseTaken c r n asked from time pair)
+  response-counted : (row number : ℕ) (gathered best : Gathered) → Right (Querying number best) (responseCounted r n asked from time row gathered)
   unfolding responseCounted
-  response-taken Not pair = (tt, tt)
-  response-taken (For row gathered) pair = either (Right (r .phase)) (leb (majorityOf n) (counted (joined (r .repliers) (from .0)))) _ _ (tt, tt) (tt, tt)
+  response-counted row number gathered best = either (Right (Querying number best)) (leb (majorityOf n) (counted (joined (r .repliers) (from .0)))) _ _ (tt, tt) (tt, tt)
+
+  response-taken : (phase : Phase) (pair : Pair) → Right phase (responseTaken (responseCounts phase (r .rid) rid) r n asked from time pair)
+  response-taken Idle pair = (tt, tt)
+  response-taken (Updating number sent) pair = (tt, tt)
+  response-taken (Querying number gathered) pair = go (eqb (rid .0) (r .rid .0))
+    where
+      go : (u : Bool) → Right (Querying number gathered) (responseTaken (cond u (For number gathered) Not) r n asked from time pair)
+      go true = response-counted number number (gatheredWith gathered pair) gathered
+      go false = (tt, tt)
 
   response-right : (pair : Pair) → Right (r .phase) (responseReceived r n asked from time rid pair)
   unfolding responseReceived responseRule
   response-right pair =
       unless (Right (r .phase)) (eqb (responseRefusal r n asked from time rid pair) 0) (responseRefusal r n asked from time rid pair) r (responseRule r n asked from time rid pair)
-      (response-taken (responseCounts (r .phase) (r .rid) rid) pair) (tt, tt)
+      (response-taken (r .phase) pair) (tt, tt)
 
   ack-counted : (row number : ℕ) (sent best : Pair) → Right (Updating number best) (ackCounted r n from time row sent)
   unfolding ackCounted

@@ -86,8 +86,8 @@ read-kind : (k : Kind) → not (isWrite k) ≡ true → k ≡ Read
 read-kind Read e = refl
 read-kind Write e = absurd (false≢true e)
 
-abbrev row : ℕ → Kind → ℕ → ℕ → ℕ → ℕ → ℕ → ℤ → Row
-row process kind register invoked answered time by value =
+abbrev row : ℕ → Kind → ℕ → ℕ → ℕ → ℕ → ℕ → ℤ → ℕ → ℕ → Row
+row process kind register invoked answered time by value query update =
     record {
       process = record { 0 = process };
       kind = kind;
@@ -96,18 +96,20 @@ row process kind register invoked answered time by value =
       answered = record { 0 = answered };
       stamp = record { time = record { 0 = time }; process = record { 0 = by } };
       value = value;
+      replied = record { query = query; update = update };
     }
 
-row-is : (a : ℕ) (k : Kind) (b c d f g : ℕ) (v : ℤ) → a ≡ 0 → k ≡ Read → b ≡ 0 → c ≡ 0 → d ≡ 0 → f ≡ 0 → g ≡ 0 → v ≡ pos 0 → row a k b c d f g v ≡ emptyRow
-row-is a k b c d f g v ea ek eb ec ed ef eg ev = rw (ea, ek, eb, ec, ed, ef, eg, ev)
+row-is : (a : ℕ) (k : Kind) (b c d f g : ℕ) (v : ℤ) (q u : ℕ) → a ≡ 0 → k ≡ Read → b ≡ 0 → c ≡ 0 → d ≡ 0 → f ≡ 0 → g ≡ 0 → v ≡ pos 0 → q ≡ 0 → u ≡ 0 → row a k b c d f g v q u ≡ emptyRow
+row-is a k b c d f g v q u ea ek eb ec ed ef eg ev eq eu = rw (ea, ek, eb, ec, ed, ef, eg, ev, eq, eu)
 
 empty-row : (r : Row) → isEmptyRow r ≡ true → r ≡ emptyRow
 empty-row r e =
-    let (l, v) = both (eqb (r .process .0) 0 && not (isWrite (r .kind)) && eqb (r .register) 0 && eqb (r .invoked .0) 0 && eqb (r .answered .0) 0 && eqb (r .stamp .time .0) 0 && eqb (r .stamp .process .0) 0) (isZero (r .value)) e in
-    let (l₂, g) = both (eqb (r .process .0) 0 && not (isWrite (r .kind)) && eqb (r .register) 0 && eqb (r .invoked .0) 0 && eqb (r .answered .0) 0 && eqb (r .stamp .time .0) 0) (eqb (r .stamp .process .0) 0) l in
-    let (a, k, b, c, d, f) = all6 (eqb (r .process .0) 0) (not (isWrite (r .kind))) (eqb (r .register) 0) (eqb (r .invoked .0) 0) (eqb (r .answered .0) 0) (eqb (r .stamp .time .0) 0) l₂ in
-    row-is (r .process .0) (r .kind) (r .register) (r .invoked .0) (r .answered .0) (r .stamp .time .0) (r .stamp .process .0) (r .value)
+    let (front, g, v, q, u) = all5 (eqb (r .process .0) 0 && not (isWrite (r .kind)) && eqb (r .register) 0 && eqb (r .invoked .0) 0 && eqb (r .answered .0) 0 && eqb (r .stamp .time .0) 0)
+    (eqb (r .stamp .process .0) 0) (isZero (r .value)) (eqb (r .replied .query) 0) (eqb (r .replied .update) 0) e in
+    let (a, k, b, c, d, f) = all6 (eqb (r .process .0) 0) (not (isWrite (r .kind))) (eqb (r .register) 0) (eqb (r .invoked .0) 0) (eqb (r .answered .0) 0) (eqb (r .stamp .time .0) 0) front in
+    row-is (r .process .0) (r .kind) (r .register) (r .invoked .0) (r .answered .0) (r .stamp .time .0) (r .stamp .process .0) (r .value) (r .replied .query) (r .replied .update)
     (eqb-true (r .process .0) 0 a) (read-kind (r .kind) k) (eqb-true (r .register) 0 b) (eqb-true (r .invoked .0) 0 c) (eqb-true (r .answered .0) 0 d) (eqb-true (r .stamp .time .0) 0 f) (eqb-true (r .stamp .process .0) 0 g) (zero-value (r .value) v)
+    (eqb-true (r .replied .query) 0 q) (eqb-true (r .replied .update) 0 u)
 
 -- a table is what it holds in its first places, and empty ones
 table-is : {A : Type 0} (d : A) (most n : ℕ) (xs : List A) → length xs ≡ most → n ≤ most → drop n xs ≡ replicate (length (drop n xs)) d → xs ≡ take n xs ++ replicate (most - length (take n xs)) d
@@ -141,8 +143,8 @@ only-within p number rows e = let (l, g) = pending-within p 1 number rows e in (
 
 phase-points : (s : State) (p : ℕ) (phase : Phase) (repliers : ℕ) → phaseFits s p phase repliers ≡ true → Points (s .rows) phase
 phase-points s p Idle repliers e = tt
-phase-points s p (Querying number gathered) repliers e = only-within p number (s .rows) (and-left _ _ (and-left (isOnly number (pendingOf p 1 (s .rows)) && _) _ e))
-phase-points s p (Updating number sent) repliers e = only-within p number (s .rows) (and-left (isOnly number (pendingOf p 1 (s .rows))) _ e)
+phase-points s p (Querying number gathered) repliers e = only-within p number (s .rows) (and-left _ _ (and-left (isOnly number (pendingOf p 1 (s .rows)) && _) _ (and-left (isOnly number (pendingOf p 1 (s .rows)) && _ && _) _ e)))
+phase-points s p (Updating number sent) repliers e = only-within p number (s .rows) (and-left (isOnly number (pendingOf p 1 (s .rows))) _ (and-left (isOnly number (pendingOf p 1 (s .rows)) && _) _ e))
 
 replica-points : (s : State) (p : ℕ) (r : Replica) → replicaFits s p r ≡ true → Points (s .rows) (r .phase)
 replica-points s p r e = phase-points s p (r .phase) (r .repliers) (and-right

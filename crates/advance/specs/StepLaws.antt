@@ -16,7 +16,7 @@ use Rattle.words.specs.declared.Pid.{Pid}
 use Rattle.words.specs.Ranges.{within}
 use Rattle.replica.specs.declared.Answer.{Answer}
 use Rattle.replica.specs.declared.Ended.{Ended}
-use Rattle.replica.specs.declared.Ended.the-variants.{Pending, At}
+use Rattle.replica.specs.declared.Ended.the-variants.{Pending, Query as Queried, At}
 use Rattle.replica.specs.declared.Phase.{Phase}
 use Rattle.replica.specs.declared.Phase.the-variants.{Idle, Querying, Updating}
 use Rattle.replica.specs.declared.Replica.{Replica}
@@ -32,7 +32,7 @@ use Rattle.tables.specs.TableLaws.{seek-at}
 use Rattle.state.specs.declared.Event.{Event}
 use Rattle.state.specs.declared.Event.the-variants.{Read, Write, Deliver, Crash, Lose}
 use Rattle.state.specs.State.{State, freshReplica, replicaOf, laidMessages, laidRows}
-use Rattle.state.specs.Step.{outcome, check, full, noRoom, invokeRefusal, deliverRefusal, crashRefusal, readRow, writeRow, completed, moved, answeredRows, withoutMessage, askedRegister, heardBy, heard}
+use Rattle.state.specs.Step.{outcome, check, full, noRoom, invokeRefusal, deliverRefusal, crashRefusal, readRow, writeRow, completed, queriedRow, moved, answeredRows, withoutMessage, askedRegister, heardBy, heard}
 use Rattle.state.specs.Step.{step, stepRead, stepWrite, stepDeliver, stepCrash, stepLose, deliverAt, loseAt}
 use Rattle.state.specs.Tabled.{benchOf}
 use Rattle.state.specs.Accepted.{passed}
@@ -40,7 +40,7 @@ use Rattle.state.specs.Sized.{answered-length}
 use Rattle.decide.specs.Plan.{quietPlan, refusedPlan, acceptedPlan, settled, numberBy, rowBy, registerAsked, answerBy, answerTo, planOf, readPlan, writePlan, deliverPlan, crashPlan, losePlan}
 use Rattle.advance.specs.declared.Known.{Known}
 use Rattle.advance.specs.declared.Tally.{Tally}
-use Rattle.advance.specs.Answers.{read-begun, write-begun, crash-silent, answer-right, Waited}
+use Rattle.advance.specs.Answers.{read-begun, write-begun, crash-silent, answer-right, Waits, Waited}
 use Rattle.advance.specs.Good.{Good, Points}
 use Rattle.advance.specs.ListLaws.{laid, laid-set, laid-next, getD-laid}
 use Rattle.advance.specs.Parts.{wantedOf, messageFound, processOf, countersOf, writtenAt, whoseOf, askedOf as askedFor, askedIn, knownOf, workBy, workOf, wholeWork}
@@ -81,16 +81,23 @@ getD-again (x ∷ xs) (suc i) d = getD-again xs i d
 
 -- ---- the rows that an answer leaves
 
-rows-done : (s : State) → Good s → (ended : Ended) (phase : Phase) → Waited ended phase → Points (s .rows) phase
-    → set (laidRows s) (writtenAt (numberBy ended (pointed phase))) (rowBy ended (getD (s .rows) (pointed phase - 1) emptyRow)) ≡ laid 1024 emptyRow (answeredRows (s .rows) (pointed phase) ended)
-rows-done s g Pending phase w points = past-rows s g emptyRow
-rows-done s g (At time pair) Idle w points = absurd w
-rows-done s g (At time pair) (Querying number gathered) w points =
-    ap (λ (i : ℕ). set (laidRows s) i (completed (getD (s .rows) (number - 1) emptyRow) time pair)) (written number (points .0))
-    ∙ laid-set 1024 emptyRow (s .rows) (number - 1) (completed (getD (s .rows) (number - 1) emptyRow) time pair) (omega (arith, points .0, points .1))
-rows-done s g (At time pair) (Updating number sent) w points =
-    ap (λ (i : ℕ). set (laidRows s) i (completed (getD (s .rows) (number - 1) emptyRow) time pair)) (written number (points .0))
-    ∙ laid-set 1024 emptyRow (s .rows) (number - 1) (completed (getD (s .rows) (number - 1) emptyRow) time pair) (omega (arith, points .0, points .1))
+module _ (s : State) (g : Good s) where
+  -- the row that a waiting replica points to becomes another
+  row-done : (change : Row → Row) (phase : Phase) → Waits phase → Points (s .rows) phase
+      → set (laidRows s) (writtenAt (pointed phase)) (change (getD (s .rows) (pointed phase - 1) emptyRow)) ≡ laid 1024 emptyRow (set (s .rows) (pointed phase - 1) (change (getD (s .rows) (pointed phase - 1) emptyRow)))
+  row-done change Idle w points = absurd w
+  row-done change (Querying number gathered) w points =
+      ap (λ (i : ℕ). set (laidRows s) i (change (getD (s .rows) (number - 1) emptyRow))) (written number (points .0))
+      ∙ laid-set 1024 emptyRow (s .rows) (number - 1) (change (getD (s .rows) (number - 1) emptyRow)) (omega (arith, points .0, points .1))
+  row-done change (Updating number sent) w points =
+      ap (λ (i : ℕ). set (laidRows s) i (change (getD (s .rows) (number - 1) emptyRow))) (written number (points .0))
+      ∙ laid-set 1024 emptyRow (s .rows) (number - 1) (change (getD (s .rows) (number - 1) emptyRow)) (omega (arith, points .0, points .1))
+
+  rows-done : (ended : Ended) (phase : Phase) → Waited ended phase → Points (s .rows) phase
+      → set (laidRows s) (writtenAt (numberBy ended (pointed phase))) (rowBy ended (getD (s .rows) (pointed phase - 1) emptyRow)) ≡ laid 1024 emptyRow (answeredRows (s .rows) (pointed phase) ended)
+  rows-done Pending phase w points = past-rows s g emptyRow
+  rows-done (Queried who) phase w points = row-done (λ row. queriedRow row who) phase w points
+  rows-done (At time pair who) phase w points = row-done (λ row. completed row time pair who) phase w points
 
 -- ---- what a recipient answers, by the row that was gathered
 

@@ -61,7 +61,7 @@ module _ {s t : State} {held after : Held} (sound : Sound s held) (kept : Kept s
   completed-entered : (message : Message) (i : ℕ) (sent : Pair) → Acks s message i sent → clockAt t (message .to .0) ≡ clockThen s message
       → majorityOf (s .n) ≤ counted (repliersThen s message)
       → i - 1 < length (s .rows)
-      → Entered t after (completed (rowOf s i) (record { 0 = clockThen s message }) sent)
+      → Entered t after (completed (rowOf s i) (record { 0 = clockThen s message }) sent 0)
   completed-entered message i sent a clock enough l =
       record {
         first = now .first;
@@ -144,7 +144,7 @@ module _ {s t : State} {held after : Held} (sound : Sound s held) (kept : Kept s
       l = let n = sound .waits (message .to .0) (sound .flight message (a .flying) .to-first) .telling i sent (a .phase) .0 in omega arith
 
       new : Row
-      new = completed (rowOf s i) (record { 0 = clockThen s message }) sent
+      new = completed (rowOf s i) (record { 0 = clockThen s message }) sent 0
 
       each : (j : ℕ) → j < length (set (s .rows) (i - 1) new) → Entered t after (getD (set (s .rows) (i - 1) new) j emptyRow)
       each j h =

@@ -28,6 +28,7 @@ use Rattle.state.specs.State.{State}
 use Rattle.state.specs.Reached.{Reached}
 use Rattle.order.specs.Operations.{kindOf, answeredOf}
 use Rattle.consistency.specs.Operations.{operationsOf}
+use Rattle.consistency.specs.Unnamed.{operations-unnamed}
 use Rattle.consistency.specs.Held.{Held}
 use Rattle.consistency.specs.Sound.{Sound, Done}
 use Rattle.consistency.specs.SoundLaws.{reached-sound}
@@ -149,4 +150,4 @@ module _ {s : State} {held : Held} (sound : Sound s held) where
       }
 
 pub facts : (s : State) → Reached s → Facts (pos 0) (operationsOf s)
-facts s r = sound-facts (reached-sound r)
+facts s r = subst (Facts (pos 0)) (operations-unnamed (s .rows)) (sound-facts (reached-sound r))

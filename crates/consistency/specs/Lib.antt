@@ -4,6 +4,7 @@ pub mod Demand3
 -- Why demand 2 stands beside it
 pub mod Alone
 -- Theory: what processes held, the moves of a run, the invariant
+pub mod Unnamed
 pub mod Held
 pub mod Moves
 pub mod MoveLaws

@@ -49,8 +49,8 @@ pub kept-write : (k : Kind) (r : Row) (pair : Pair) → k ≡ Write → keptPair
 kept-write Read r pair e = let z : _≡_ {A = ℕ} 0 1 = cc in absurd (omega arith)
 kept-write Write r pair e = refl
 
-completed-kept : (r : Row) (time : Time) (pair : Pair) → RowKept r (completed r time pair)
-completed-kept r time pair =
+completed-kept : (r : Row) (time : Time) (pair : Pair) (who : ℕ) → RowKept r (completed r time pair who)
+completed-kept r time pair who =
     record {
       process = refl;
       kind = refl;
@@ -60,18 +60,18 @@ completed-kept r time pair =
       value = λ e. ap (λ (p : Pair). p .value) (kept-write (r .kind) r pair e);
     }
 
-rows-completed : (rows : List Row) (i : ℕ) (time : Time) (pair : Pair)
-    → RowsKept rows (set rows i (completed (getD rows i emptyRow) time pair))
-rows-completed rows i time pair = record { longer = omega (arith, length-set rows i (completed (getD rows i emptyRow) time pair)); kept = each }
+rows-completed : (rows : List Row) (i : ℕ) (time : Time) (pair : Pair) (who : ℕ)
+    → RowsKept rows (set rows i (completed (getD rows i emptyRow) time pair who))
+rows-completed rows i time pair who = record { longer = omega (arith, length-set rows i (completed (getD rows i emptyRow) time pair who)); kept = each }
   where
-    each : (j : ℕ) → j < length rows → RowKept (getD rows j emptyRow) (getD (set rows i (completed (getD rows i emptyRow) time pair)) j emptyRow)
+    each : (j : ℕ) → j < length rows → RowKept (getD rows j emptyRow) (getD (set rows i (completed (getD rows i emptyRow) time pair who)) j emptyRow)
     each j l =
         elim (ℕ-discrete j i) [
           | yes e ↦
               rw e
               (let inside : i < length rows = omega arith in
-              rw (getD-set-same rows i (completed (getD rows i emptyRow) time pair) emptyRow inside) (completed-kept (getD rows i emptyRow) time pair))
-          | no n ↦ rw (getD-set-other rows i j (completed (getD rows i emptyRow) time pair) emptyRow n) (row-same (getD rows j emptyRow))
+              rw (getD-set-same rows i (completed (getD rows i emptyRow) time pair who) emptyRow inside) (completed-kept (getD rows i emptyRow) time pair who))
+          | no n ↦ rw (getD-set-other rows i j (completed (getD rows i emptyRow) time pair who) emptyRow n) (row-same (getD rows j emptyRow))
         ]
 
 -- ---- the process that moved
@@ -167,4 +167,4 @@ module _ {s t : State} {held : Held} (sound : Sound s held) where
       turn-kept turn (advance-same (reached s message) _ (omega arith) refl) (traced-same (reached s message) _ refl (sym (a .phase))) (rows-same (s .rows))
   move-kept (completes message i sent a enough turn) =
       turn-kept turn (advance-same (reached s message) _ (omega arith) refl) (traced-new (reached s message) _ (omega arith))
-      (rows-completed (s .rows) (i - 1) _ sent)
+      (rows-completed (s .rows) (i - 1) _ sent 0)

@@ -1,5 +1,5 @@
 -- The moves of a run: what an accepted event does, as the proof looks at it. One process takes its turn; some messages may be new, and the rows
--- are as before, one more, or one completed. Which messages were taken off does not matter.
+-- are as before, one more, or one completed. Which messages were taken off does not matter, nor do the rows' sets (`Unnamed`): they are empty.
 use Prim.Native.Nat.{ℕ, _+_, _-_, _≤_}
 use mathlib.Core.Path.{_≡_, ap}
 use mathlib.Core.Bool.{Bool}
@@ -169,5 +169,5 @@ pub data Move (s t : State) : Type 0 where
   completes : (message : Message) (i : ℕ) (sent : Pair) → Acks s message i sent
       → majorityOf (s .n) ≤ counted (repliersThen s message)
       → Turn s t (message .to .0) (ending s message Idle) Nothing
-      (set (s .rows) (i - 1) (completed (rowOf s i) (record { 0 = clockThen s message }) sent))
+      (set (s .rows) (i - 1) (completed (rowOf s i) (record { 0 = clockThen s message }) sent 0))
       → Move s t

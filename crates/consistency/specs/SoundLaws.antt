@@ -1,10 +1,10 @@
 -- Every state that accepted events give from a fresh start is sound, beside what its processes held.
-use Prim.Native.Nat.{ℕ, _-_, _≤_}
+use Prim.Native.Nat.{ℕ, _-_, _≤_, _<_}
 use mathlib.Core.Path.{_≡_, refl, sym, ap, subst, _∙_}
-use mathlib.Core.List.{List, [], _∷_, List·Memᴰ, List·Memᴰ·head, List·Memᴰ·tail, List·Memᴰ·not-nil}
+use mathlib.Core.List.{List, [], _∷_, map, List·Memᴰ, List·Memᴰ·head, List·Memᴰ·tail, List·Memᴰ·not-nil}
 use mathlib.Core.Logic.{inl}
 use native.Mathlib.Omega.{arith}
-use lib.ListN.{length, getD}
+use lib.ListN.{length, getD, length-map, List·getD-map}
 use Rattle.words.specs.declared.Message.{Message}
 use Rattle.words.specs.declared.Pair.{Pair}
 use Rattle.words.specs.RangeLaws.{within-most}
@@ -12,12 +12,15 @@ use Rattle.words.specs.Stamps.{startPair, startStamp}
 use Rattle.words.specs.StampLaws.{atMost-reflexive}
 use Rattle.words.specs.QuorumLaws.{inside-empty}
 use Rattle.replica.specs.declared.Replica.{Replica}
+use Rattle.tables.specs.declared.Row.{Row}
+use Rattle.tables.specs.Tables.{emptyRow}
 use Rattle.state.specs.State.{State, freshReplica, fresh, replicaOf}
 use Rattle.state.specs.Step.{step}
 use Rattle.state.specs.Reached.{Reached}
 use Rattle.state.specs.Reached.Reached.{start, next}
 use Rattle.state.specs.EveryLaws.{getD-empty}
 use Rattle.consistency.specs.Held.{Held, heldIn, heldAfter}
+use Rattle.consistency.specs.Unnamed.{unnamed, withoutSets}
 use Rattle.consistency.specs.Moves.{Move}
 use Rattle.consistency.specs.MoveLaws.{moves}
 use Rattle.moves.specs.Lists.{All}
@@ -90,13 +93,25 @@ move-sound {t = t} sound numbered move =
       turns = move-turns t sound move;
     }
 
-pub reached-sound : {s : State} (r : Reached s) → Sound s (heldIn r)
-unfolding heldIn
+-- the rows' sets are no part of it
+unnamed-numbered : (t : State) → Numbered t → Numbered (withoutSets t)
+unnamed-numbered t n = record { timely = n .timely; once = n .once }
+
+pub reached-sound : {s : State} (r : Reached s) → Sound (withoutSets s) (heldIn r)
+unfolding heldIn heldAfter
 reached-sound (start n m f g) = fresh-sound n m (within-most n 7 f) (within-most m 16 g)
 reached-sound (next s e r z) = continued (reached-sound r)
   where
-    continued : Sound s (heldIn r) → Sound (step s e .state) (heldAfter (heldIn r) (step s e .state))
+    continued : Sound (withoutSets s) (heldIn r) → Sound (withoutSets (step s e .state)) (heldAfter (heldIn r) (withoutSets (step s e .state)))
     continued sound =
         let few = sound .sized .few in
         let move = moves s (sound .sized .seven) few (λ message m. let c = sound .flight message m in (c .to-first, omega (arith, c .to-last))) e z in
-        move-sound sound (reached-numbered (step s e .state) (next s e r z)) move
+        move-sound sound (unnamed-numbered (step s e .state) (reached-numbered (step s e .state) (next s e r z))) move
+
+-- a completed operation was invoked before it was answered
+pub answered-later : {s : State} → Reached s → (j : ℕ) → j < length (s .rows) → (getD (s .rows) j emptyRow .answered .0 ≡ 0 → ⊥)
+    → getD (s .rows) j emptyRow .invoked .0 < getD (s .rows) j emptyRow .answered .0
+answered-later {s} r j l n =
+    let row : getD (map unnamed (s .rows)) j emptyRow ≡ unnamed (getD (s .rows) j emptyRow) = List·getD-map unnamed (s .rows) j emptyRow in
+    let there = reached-sound r .rows j (omega (arith, length-map (s .rows) unnamed)) in
+    subst (λ (y : Row). (y .answered .0 ≡ 0 → ⊥) → y .invoked .0 < y .answered .0) row (λ k. there .done k .later) n

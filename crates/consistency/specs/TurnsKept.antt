@@ -103,11 +103,11 @@ module _ {s : State} (t : State) {held : Held} (sound : Sound s held) where
 
   completed-turns : (message : Message) (i : ℕ) (sent : Pair) → Acks s message i sent
       → ((q : ℕ) → 1 ≤ q → (q ≡ message .to .0 → ⊥) → points t q ≡ points s q)
-      → Ordered (set (s .rows) (i - 1) (completed (rowOf s i) (record { 0 = clockThen s message }) sent)) (points t)
+      → Ordered (set (s .rows) (i - 1) (completed (rowOf s i) (record { 0 = clockThen s message }) sent 0)) (points t)
   completed-turns message i sent a others = record { pending = open-rows; inTurn = turns }
     where
       new : Row
-      new = completed (rowOf s i) (record { 0 = clockThen s message }) sent
+      new = completed (rowOf s i) (record { 0 = clockThen s message }) sent 0
 
       serves : IsRow s i × (rowOf s i .answered .0 ≡ 0)
       serves =

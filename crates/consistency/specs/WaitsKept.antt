@@ -211,7 +211,7 @@ module _ {s t : State} {held after : Held} (sound : Sound s held) (kept : Kept s
   move-waits (completes message i sent a enough turn) = turn-waits turn rows own
     where
       rows : (j : ℕ) → IsRow s j → (rowOf s j .process .0 ≡ message .to .0 → ⊥)
-          → getD (set (s .rows) (i - 1) (completed (rowOf s i) (record { 0 = clockThen s message }) sent)) (j - 1) emptyRow ≡ rowOf s j
+          → getD (set (s .rows) (i - 1) (completed (rowOf s i) (record { 0 = clockThen s message }) sent 0)) (j - 1) emptyRow ≡ rowOf s j
       rows j n f = getD-set-other (s .rows) (i - 1) (j - 1) _ emptyRow λ e. f (rw e (own-row sound message i sent a))
 
       own : 1 ≤ message .to .0 → Waits t after (message .to .0)

@@ -11,7 +11,7 @@ use Rattle.words.specs.declared.Pair.{Pair}
 use Rattle.words.specs.declared.Time.{Time}
 use Rattle.replica.specs.declared.Answer.{Answer}
 use Rattle.replica.specs.declared.Ended.{Ended}
-use Rattle.replica.specs.declared.Ended.the-variants.{Pending, At}
+use Rattle.replica.specs.declared.Ended.the-variants.{Pending, Query as Queried, At}
 use Rattle.replica.specs.declared.Phase.{Phase}
 use Rattle.replica.specs.declared.Phase.the-variants.{Idle, Querying, Updating}
 use Rattle.replica.specs.declared.Replica.{Replica}
@@ -25,7 +25,7 @@ use Rattle.tables.specs.declared.Row.{Row}
 use Rattle.tables.specs.Tables.{emptyMessage, emptyRow}
 use Rattle.state.specs.declared.Event.{Event}
 use Rattle.state.specs.declared.Event.the-variants.{Read, Write, Deliver, Crash, Lose}
-use Rattle.state.specs.Step.{messageOf, readRow, writeRow, completed}
+use Rattle.state.specs.Step.{messageOf, readRow, writeRow, completed, queriedRow}
 use Rattle.decide.specs.declared.Counters.{Counters}
 use Rattle.decide.specs.declared.Plan.{Plan}
 use Rattle.decide.specs.Checks.{invokeChecks, deliverChecks, crashChecks, loseChecks, missingChecks}
@@ -86,14 +86,16 @@ answerBy Ack n asked r message = ackReceived r n (message .from) (message .time)
 abbrev pub answerTo : ℕ → ℕ → Replica → Message → Answer
 answerTo n asked r message = answerBy (message .body) n asked r message
 
--- the row that an answer writes: none while the operation is pending, else the one that the replica pointed to
+-- the row that an answer writes: none where no phase ended, else the one that the replica pointed to
 abbrev pub numberBy : Ended → ℕ → ℕ
 numberBy Pending number = 0
-numberBy (At time pair) number = number
+numberBy (Queried who) number = number
+numberBy (At time pair who) number = number
 
 abbrev pub rowBy : Ended → Row → Row
 rowBy Pending row = emptyRow
-rowBy (At time pair) row = completed row time pair
+rowBy (Queried who) row = queriedRow row who
+rowBy (At time pair who) row = completed row time pair who
 
 unfoldable pub deliverPlan : Counters → Found → Message → Replica → Row → Plan
 deliverPlan c Missing message r row = refusedPlan (missingChecks c) r

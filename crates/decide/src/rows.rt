@@ -1,10 +1,11 @@
-// The rows of the history: how one begins and how it is completed.
+// The rows of the history: how one begins, and what the end of a phase makes of it.
 ghost use mathlib.Core.Path.{_≡_};
 ghost use Rattle.decide.specs.Plan.{registerAsked, numberBy, rowBy};
-ghost use Rattle.state.specs.Step.{begunRow, readRow, writeRow, completed};
+ghost use Rattle.state.specs.Step.{begunRow, readRow, writeRow, completed, queriedRow};
 use replica::Ended;
 use replica::Phase;
 use tables::Kind;
+use tables::Replied;
 use tables::Row;
 use words::Pair;
 use words::Pid;
@@ -23,6 +24,7 @@ fn begun_row(p: u8, kind: Kind, x: u8, clock: Time, stamp: Stamp, value: i64) ->
         answered: Time(0),
         stamp: stamp,
         value: value,
+        replied: tables::nobody_yet(),
     }
 }
 
@@ -46,12 +48,30 @@ pub fn write_row(p: u8, x: u8, value: i64, clock: Time) -> Row
     begun_row(p, Kind::Write, x, clock, stamp, value)
 }
 
-// A completed read has the pair it chose; a write keeps its own.
-pub fn completed_row(row: Row, time: Time, pair: Pair) -> Row
-    ensures { λ r. ⌜ r ≡ completed row time pair ⌝ }
+// The query phase ended by the replies of these processes.
+fn queried_row(row: Row, who: u8) -> Row
+    ensures { λ r. ⌜ r ≡ queriedRow row who ⌝ }
 {
+    let replied = Replied {
+        query: who,
+        update: row.replied.update,
+    };
+    let mut next = row;
+    next.replied = replied;
+    next
+}
+
+// A completed read has the pair it chose; a write keeps its own. The update phase ended by the acks of these processes.
+fn completed_row(row: Row, time: Time, pair: Pair, who: u8) -> Row
+    ensures { λ r. ⌜ r ≡ completed row time pair who ⌝ }
+{
+    let replied = Replied {
+        query: row.replied.query,
+        update: who,
+    };
     let mut next = row;
     next.answered = time;
+    next.replied = replied;
     let kind = row.kind;
     match kind {
         Kind::Write => next,
@@ -79,7 +99,8 @@ pub fn number_by(ended: Ended, number: u16) -> u16
 {
     match ended {
         Ended::Pending => 0,
-        Ended::At(_, _) => number,
+        Ended::Query(_) => number,
+        Ended::At(_, _, _) => number,
     }
 }
 
@@ -88,6 +109,7 @@ pub fn row_by(ended: Ended, row: Row) -> Row
 {
     match ended {
         Ended::Pending => tables::empty_row(),
-        Ended::At(time, pair) => completed_row(row, time, pair),
+        Ended::Query(who) => queried_row(row, who),
+        Ended::At(time, pair, who) => completed_row(row, time, pair, who),
     }
 }

@@ -12,7 +12,7 @@ use Rattle.replica.specs.declared.Phase.the-variants.{Idle}
 use Rattle.replica.specs.declared.Replica.{Replica}
 use Rattle.replica.specs.Handlers.{updateReceived}
 use Rattle.tables.specs.declared.Row.{Row}
-use Rattle.state.specs.Step.{readRow, writeRow, completed}
+use Rattle.state.specs.Step.{readRow, writeRow, completed, queriedRow}
 use Rattle.placing.specs.OneOrder.{listing, point, placed}
 use Rattle.order.specs.Operations.{operationsOf}
 
@@ -40,9 +40,10 @@ updateAnswer = updateReceived holder (record { 0 = 1 }) (record { 0 = 9 }) (reco
 
 -- ---- P11
 
--- row 1: process 1's write of 7 to register 1, begun at 1 and so stamped (1, 1), is pending; row 2: process 2's read of it, begun at 5, was answered 0 at 8
+-- row 1: process 1's write of 7 to register 1, begun at 1 and so stamped (1, 1), is pending; row 2: process 2's read of it, begun at 5, was answered 0 at 8,
+-- both its phases ended by the replies of processes 2 and 3 (bits 2 and 3)
 abbrev pub overtaken : List Row
-overtaken = writeRow 1 1 (pos 7) 1 ∷ completed (readRow 2 1 5) (record { 0 = 8 }) startPair ∷ []
+overtaken = writeRow 1 1 (pos 7) 1 ∷ completed (queriedRow (readRow 2 1 5) 12) (record { 0 = 8 }) startPair 12 ∷ []
 
 -- the points of the listed rows, in the one order
 abbrev pub pointsOf : List Row → List Stamp

@@ -72,11 +72,11 @@ isPendingOf p r = eqb (r .process .0) p && eqb (r .answered .0) 0
 
 abbrev pub waits : ℕ → ℕ → Waiting → List Row → Waiting
 waits p place w [] = w
-waits p place w (r ∷ rest) = waits p (suc place) (cond (isPendingOf p r) (noted w place (isWrite (r .kind))) w) rest
+waits p place w (r ∷ rest) = waits p (suc place) (cond (isPendingOf p r) (noted w place (isWrite (r .kind)) (r .replied .query)) w) rest
 
 -- a row is noted for its own process alone
 noted-at : (ws : List Waiting) (place : ℕ) (r : Row) (k : ℕ) → length ws ≡ 7 → k < 7
-    → getD (notedIn ws place r) k noWaiting ≡ cond (isPendingOf (suc k) r) (noted (getD ws k noWaiting) place (isWrite (r .kind))) (getD ws k noWaiting)
+    → getD (notedIn ws place r) k noWaiting ≡ cond (isPendingOf (suc k) r) (noted (getD ws k noWaiting) place (isWrite (r .kind)) (r .replied .query)) (getD ws k noWaiting)
 noted-at ws place r k len l = go (eqb q (suc k)) refl (isPending r) refl
   where
     q : ℕ
@@ -86,7 +86,7 @@ noted-at ws place r k len l = go (eqb q (suc k)) refl (isPending r) refl
     done = eqb (r .answered .0) 0
 
     x : Waiting → Waiting
-    x w = noted w place (isWrite (r .kind))
+    x w = noted w place (isWrite (r .kind)) (r .replied .query)
 
     go : (e : Bool) → eqb q (suc k) ≡ e → (t : Bool) → isPending r ≡ t
         → getD (cond t (set ws (q - 1) (x (getD ws (q - 1) noWaiting))) ws) k noWaiting ≡ cond (e && done) (x (getD ws k noWaiting)) (getD ws k noWaiting)
@@ -107,8 +107,8 @@ noted-at ws place r k len l = go (eqb q (suc k)) refl (isPending r) refl
 noted-long : (ws : List Waiting) (place : ℕ) (r : Row) → length (notedIn ws place r) ≡ length ws
 noted-long ws place r = go (isPending r)
   where
-    go : (t : Bool) → length (cond t (set ws (r .process .0 - 1) (noted (getD ws (r .process .0 - 1) noWaiting) place (isWrite (r .kind)))) ws) ≡ length ws
-    go true = length-set ws (r .process .0 - 1) (noted (getD ws (r .process .0 - 1) noWaiting) place (isWrite (r .kind)))
+    go : (t : Bool) → length (cond t (set ws (r .process .0 - 1) (noted (getD ws (r .process .0 - 1) noWaiting) place (isWrite (r .kind)) (r .replied .query))) ws) ≡ length ws
+    go true = length-set ws (r .process .0 - 1) (noted (getD ws (r .process .0 - 1) noWaiting) place (isWrite (r .kind)) (r .replied .query))
     go false = refl
 
 pub waiting-seen : (s : State) (place : ℕ) (ok : Bool) (left : ℕ) (ws : List Waiting) (xs : List Row) (k : ℕ) → length ws ≡ 7 → k < 7
@@ -125,36 +125,36 @@ waiting-seen s place ok (suc left) ws (r ∷ rest) k len l =
     ∙ ap (λ (w : Waiting). waits (suc k) (suc place) w (take left rest)) (noted-at ws place r k len l))
 
 -- one was seen: any further one makes them several
-waits-more : (p place : ℕ) (several : Bool) (at : ℕ) (write : Bool) (xs : List Row)
-    → waits p place (record { some = true; several = several; place = at; write = write }) xs
-    ≡ record { some = true; several = several || not (isEmpty (pendingOf p (suc place) xs)); place = at; write = write }
-waits-more p place several at write [] = ap (λ (t : Bool). record { some = true; several = t; place = at; write = write }) (or-false several)
+waits-more : (p place : ℕ) (several : Bool) (at : ℕ) (write : Bool) (query : ℕ) (xs : List Row)
+    → waits p place (record { some = true; several = several; place = at; write = write; query = query }) xs
+    ≡ record { some = true; several = several || not (isEmpty (pendingOf p (suc place) xs)); place = at; write = write; query = query }
+waits-more p place several at write query [] = ap (λ (t : Bool). record { some = true; several = t; place = at; write = write; query = query }) (or-false several)
   where
     or-false : (t : Bool) → t ≡ t || false
     or-false true = refl
     or-false false = refl
-waits-more p place several at write (r ∷ rest) = go (isPendingOf p r) (waits-more p (suc place) true at write rest) (waits-more p (suc place) several at write rest)
+waits-more p place several at write query (r ∷ rest) = go (isPendingOf p r) (waits-more p (suc place) true at write query rest) (waits-more p (suc place) several at write query rest)
   where
     or-true : (t : Bool) → (t || true) ≡ true
     or-true true = refl
     or-true false = refl
 
     go : (t : Bool)
-        → waits p (suc place) (record { some = true; several = true; place = at; write = write }) rest ≡ record { some = true; several = true; place = at; write = write }
-        → waits p (suc place) (record { some = true; several = several; place = at; write = write }) rest ≡ record { some = true; several = several || not (isEmpty (pendingOf p (suc (suc place)) rest)); place = at; write = write }
-        → waits p (suc place) (cond t (record { some = true; several = true; place = at; write = write }) (record { some = true; several = several; place = at; write = write })) rest
-        ≡ record { some = true; several = several || not (isEmpty (cond t (suc place ∷ pendingOf p (suc (suc place)) rest) (pendingOf p (suc (suc place)) rest))); place = at; write = write }
+        → waits p (suc place) (record { some = true; several = true; place = at; write = write; query = query }) rest ≡ record { some = true; several = true; place = at; write = write; query = query }
+        → waits p (suc place) (record { some = true; several = several; place = at; write = write; query = query }) rest ≡ record { some = true; several = several || not (isEmpty (pendingOf p (suc (suc place)) rest)); place = at; write = write; query = query }
+        → waits p (suc place) (cond t (record { some = true; several = true; place = at; write = write; query = query }) (record { some = true; several = several; place = at; write = write; query = query })) rest
+        ≡ record { some = true; several = several || not (isEmpty (cond t (suc place ∷ pendingOf p (suc (suc place)) rest) (pendingOf p (suc (suc place)) rest))); place = at; write = write; query = query }
     go true yes-more no-more = rw (or-true several) yes-more
     go false yes-more no-more = no-more
 
 -- none was seen yet: what is seen at the end says whether there is none, and whether this is the only one
 pub waits-none : (p place : ℕ) (xs : List Row) → not (waits p place noWaiting xs .some) ≡ isEmpty (pendingOf p (suc place) xs)
 waits-none p place [] = refl
-waits-none p place (r ∷ rest) = go (isPendingOf p r) (ap (λ (w : Waiting). not (w .some)) (waits-more p (suc place) false place (isWrite (r .kind)) rest)) (waits-none p (suc place) rest)
+waits-none p place (r ∷ rest) = go (isPendingOf p r) (ap (λ (w : Waiting). not (w .some)) (waits-more p (suc place) false place (isWrite (r .kind)) (r .replied .query) rest)) (waits-none p (suc place) rest)
   where
-    go : (t : Bool) → not (waits p (suc place) (noted noWaiting place (isWrite (r .kind))) rest .some) ≡ false
+    go : (t : Bool) → not (waits p (suc place) (noted noWaiting place (isWrite (r .kind)) (r .replied .query)) rest .some) ≡ false
         → not (waits p (suc place) noWaiting rest .some) ≡ isEmpty (pendingOf p (suc (suc place)) rest)
-        → not (waits p (suc place) (cond t (noted noWaiting place (isWrite (r .kind))) noWaiting) rest .some)
+        → not (waits p (suc place) (cond t (noted noWaiting place (isWrite (r .kind)) (r .replied .query)) noWaiting) rest .some)
         ≡ isEmpty (cond t (suc place ∷ pendingOf p (suc (suc place)) rest) (pendingOf p (suc (suc place)) rest))
     go true this later = this
     go false this later = later
@@ -169,12 +169,12 @@ pub waits-one : (p place row : ℕ) (xs : List Row) → isOne row (waits p place
 waits-one p place row [] = refl
 waits-one p place row (r ∷ rest) =
     go (isPendingOf p r)
-    (ap (isOne row) (waits-more p (suc place) false place (isWrite (r .kind)) rest) ∙ not-not-and (isEmpty (pendingOf p (suc (suc place)) rest)) (eqb (suc place) row))
+    (ap (isOne row) (waits-more p (suc place) false place (isWrite (r .kind)) (r .replied .query) rest) ∙ not-not-and (isEmpty (pendingOf p (suc (suc place)) rest)) (eqb (suc place) row))
     (waits-one p (suc place) row rest)
   where
-    go : (t : Bool) → isOne row (waits p (suc place) (noted noWaiting place (isWrite (r .kind))) rest) ≡ eqb (suc place) row && isEmpty (pendingOf p (suc (suc place)) rest)
+    go : (t : Bool) → isOne row (waits p (suc place) (noted noWaiting place (isWrite (r .kind)) (r .replied .query)) rest) ≡ eqb (suc place) row && isEmpty (pendingOf p (suc (suc place)) rest)
         → isOne row (waits p (suc place) noWaiting rest) ≡ isOnly row (pendingOf p (suc (suc place)) rest)
-        → isOne row (waits p (suc place) (cond t (noted noWaiting place (isWrite (r .kind))) noWaiting) rest)
+        → isOne row (waits p (suc place) (cond t (noted noWaiting place (isWrite (r .kind)) (r .replied .query)) noWaiting) rest)
         ≡ isOnly row (cond t (suc place ∷ pendingOf p (suc (suc place)) rest) (pendingOf p (suc (suc place)) rest))
     go true this later = this
     go false this later = later
@@ -188,18 +188,27 @@ only-from p i row (r ∷ rest) h = go (isPendingOf p r) (only-from p (suc i) row
     go true later e = let same : i ≡ row = eqb-true i row (and-left (eqb i row) (isEmpty (pendingOf p (suc i) rest)) e) in omega arith
     go false later e = let le = later e in omega arith
 
--- and its kind is what was noted
-pub waits-kind : (p place row : ℕ) (xs : List Row) → isOnly row (pendingOf p (suc place) xs) ≡ true
-    → waits p place noWaiting xs .write ≡ isWrite (getD xs (row - suc place) emptyRow .kind)
-waits-kind p place row [] h = let z : _≡_ {A = ℕ} 0 1 = cc in absurd (omega arith)
-waits-kind p place row (r ∷ rest) h =
-    go (isPendingOf p r) (ap (λ (w : Waiting). w .write) (waits-more p (suc place) false place (isWrite (r .kind)) rest)) (waits-kind p (suc place) row rest) (only-from p (suc (suc place)) row rest) h
+-- and its kind, and whose replies ended its query phase, are what was noted
+abbrev NotedOf : Waiting → Row → Type 0
+NotedOf w r = (w .write ≡ isWrite (r .kind)) × (w .query ≡ r .replied .query)
+
+pub waits-row : (p place row : ℕ) (xs : List Row) → isOnly row (pendingOf p (suc place) xs) ≡ true
+    → NotedOf (waits p place noWaiting xs) (getD xs (row - suc place) emptyRow)
+waits-row p place row [] h = let z : _≡_ {A = ℕ} 0 1 = cc in absurd (omega arith)
+waits-row p place row (r ∷ rest) h = go (isPendingOf p r) this (waits-row p (suc place) row rest) (only-from p (suc (suc place)) row rest) h
   where
-    go : (t : Bool) → waits p (suc place) (noted noWaiting place (isWrite (r .kind))) rest .write ≡ isWrite (r .kind)
-        → (isOnly row (pendingOf p (suc (suc place)) rest) ≡ true → waits p (suc place) noWaiting rest .write ≡ isWrite (getD rest (row - suc (suc place)) emptyRow .kind))
+    seen : waits p (suc place) (noted noWaiting place (isWrite (r .kind)) (r .replied .query)) rest
+        ≡ record { some = true; several = not (isEmpty (pendingOf p (suc (suc place)) rest)); place = place; write = isWrite (r .kind); query = r .replied .query }
+    seen = waits-more p (suc place) false place (isWrite (r .kind)) (r .replied .query) rest
+
+    this : NotedOf (waits p (suc place) (noted noWaiting place (isWrite (r .kind)) (r .replied .query)) rest) r
+    this = (ap (λ (w : Waiting). w .write) seen, ap (λ (w : Waiting). w .query) seen)
+
+    go : (t : Bool) → NotedOf (waits p (suc place) (noted noWaiting place (isWrite (r .kind)) (r .replied .query)) rest) r
+        → (isOnly row (pendingOf p (suc (suc place)) rest) ≡ true → NotedOf (waits p (suc place) noWaiting rest) (getD rest (row - suc (suc place)) emptyRow))
         → (isOnly row (pendingOf p (suc (suc place)) rest) ≡ true → suc (suc place) ≤ row)
         → isOnly row (cond t (suc place ∷ pendingOf p (suc (suc place)) rest) (pendingOf p (suc (suc place)) rest)) ≡ true
-        → waits p (suc place) (cond t (noted noWaiting place (isWrite (r .kind))) noWaiting) rest .write ≡ isWrite (getD (r ∷ rest) (row - suc place) emptyRow .kind)
+        → NotedOf (waits p (suc place) (cond t (noted noWaiting place (isWrite (r .kind)) (r .replied .query)) noWaiting) rest) (getD (r ∷ rest) (row - suc place) emptyRow)
     go true this later low e =
         let same : suc place ≡ row = eqb-true (suc place) row (and-left (eqb (suc place) row) (isEmpty (pendingOf p (suc (suc place)) rest)) e) in
         let at : row - suc place ≡ 0 = omega arith in

@@ -1,6 +1,6 @@
 -- The tests of `Tabled` and `WellFormed` as the code makes them: each table is gone through once, and what was seen is carried along.
 use Prim.Native.Nat.{ℕ, suc, _+_, _-_, _*_}
-use mathlib.Core.Bool.{Bool, true, false, not, cond, _&&_}
+use mathlib.Core.Bool.{Bool, true, false, not, cond, _&&_, _||_}
 use mathlib.Core.List.{List, [], _∷_}
 use lib.Dec.{eqb, ltb, leb}
 use lib.ListN.{length, getD, set, replicate}
@@ -15,7 +15,7 @@ use Rattle.replica.specs.declared.Replica.{Replica}
 use Rattle.tables.specs.declared.Row.{Row}
 use Rattle.state.specs.declared.Bench.{Bench}
 use Rattle.state.specs.State.{State}
-use Rattle.state.specs.WellFormed.{messageFits, isWrite, rowFits, isStart, pairsFit, isFresh}
+use Rattle.state.specs.WellFormed.{messageFits, isWrite, enough, rowFits, isStart, pairsFit, isFresh}
 use Rattle.state.specs.Tabled.{isEmptyMessage, isEmptyRow}
 use Rattle.judge.specs.declared.Limits.{Limits}
 use Rattle.judge.specs.declared.Scan.{Scan}
@@ -66,13 +66,13 @@ scanMessages s at (m ∷ rest) = scanMessages s (scanMessage s at m) rest
 -- ---- rows
 
 abbrev pub noWaiting : Waiting
-noWaiting = record { some = false; several = false; place = 0; write = false }
+noWaiting = record { some = false; several = false; place = 0; write = false; query = 0 }
 
--- one more pending row
-abbrev pub noted : Waiting → ℕ → Bool → Waiting
-noted w place write =
-    cond (w .some) (record { some = true; several = true; place = w .place; write = w .write })
-    (record { some = true; several = false; place = place; write = write })
+-- one more pending row, at a place, of a write or not, its query phase ended by this set
+abbrev pub noted : Waiting → ℕ → Bool → ℕ → Waiting
+noted w place write query =
+    cond (w .some) (record { some = true; several = true; place = w .place; write = w .write; query = w .query })
+    (record { some = true; several = false; place = place; write = write; query = query })
 
 -- a row of a process that was not answered yet
 abbrev pub isPending : Row → Bool
@@ -82,7 +82,7 @@ isPending r = within (r .process .0) 7 && eqb (r .answered .0) 0
 abbrev pub notedIn : List Waiting → ℕ → Row → List Waiting
 notedIn waiting place r =
     cond (isPending r)
-    (set waiting (r .process .0 - 1) (noted (getD waiting (r .process .0 - 1) noWaiting) place (isWrite (r .kind)))) waiting
+    (set waiting (r .process .0 - 1) (noted (getD waiting (r .process .0 - 1) noWaiting) place (isWrite (r .kind)) (r .replied .query))) waiting
 
 abbrev pub startRows : ℕ → ℕ → RowScan
 startRows places rows = record { ok = eqb places mostRows && leb rows mostRows; left = rows; waiting = replicate 7 noWaiting }
@@ -111,8 +111,10 @@ isOne row w = w .some && not (w .several) && eqb (suc (w .place)) row
 
 abbrev pub phaseJudged : State → Waiting → Phase → ℕ → Bool
 phaseJudged s w Idle repliers = not (w .some) && eqb repliers 0
-phaseJudged s w (Querying row gathered) repliers = isOne row w && not (w .write) && pairFits (s .accepted) (s .n) (gathered .best)
-phaseJudged s w (Updating row sent) repliers = isOne row w && pairFits (s .accepted) (s .n) sent
+phaseJudged s w (Querying row gathered) repliers =
+    isOne row w && not (w .write) && pairFits (s .accepted) (s .n) (gathered .best) && eqb (w .query) 0
+phaseJudged s w (Updating row sent) repliers =
+    isOne row w && pairFits (s .accepted) (s .n) sent && (w .write || enough s (w .query))
 
 abbrev pub replicaJudged : State → Waiting → Replica → Bool
 replicaJudged s w r =

@@ -1,8 +1,8 @@
 -- What each test comes to, by the branches that the code takes.
-use mathlib.Core.Path.{_≡_, refl, sym}
+use mathlib.Core.Path.{_≡_, refl, sym, ap, _∙_}
 use Prim.Native.Nat.{ℕ, zero, suc, _+_, _-_, _≤_}
 use native.Mathlib.Omega.{arith}
-use mathlib.Core.Bool.{Bool, true, false, not, _&&_, and-false, and-assoc}
+use mathlib.Core.Bool.{Bool, true, false, not, cond, _&&_, _||_, and-false, and-assoc}
 use mathlib.Core.List.{List}
 use lib.Dec.{eqb, ltb, leb, eqb·suc-suc}
 use lib.ListN.{length, getD, set}
@@ -14,7 +14,7 @@ use Rattle.replica.specs.declared.Replica.{Replica}
 use Rattle.replica.specs.Handlers.{isIdle}
 use Rattle.tables.specs.declared.Row.{Row}
 use Rattle.state.specs.State.{State}
-use Rattle.state.specs.WellFormed.{every, messageFits, isWrite, rowFits, isStart, isFresh}
+use Rattle.state.specs.WellFormed.{every, messageFits, isWrite, enough, queryFits, updateFits, rowFits, isStart, isFresh}
 use Rattle.state.specs.Tabled.{isEmptyMessage, isEmptyRow}
 use Rattle.judge.specs.declared.Scan.{Scan}
 use Rattle.judge.specs.declared.Waiting.{Waiting}
@@ -46,7 +46,7 @@ process-within r e = (least q (eqb-false q 0 (not-true (eqb q 0) (and-left (not 
     least k f = omega (arith, f)
 
 pub note-pending : (ws : List Waiting) (place : ℕ) (r : Row) (w : Waiting) → isPending r ≡ true
-    → w ≡ noted (getD ws (r .process .0 - 1) noWaiting) place (isWrite (r .kind)) → set ws (r .process .0 - 1) w ≡ notedIn ws place r
+    → w ≡ noted (getD ws (r .process .0 - 1) noWaiting) place (isWrite (r .kind)) (r .replied .query) → set ws (r .process .0 - 1) w ≡ notedIn ws place r
 note-pending ws place r w h e = rw (h, e)
 
 pub note-other : (ws : List Waiting) (place : ℕ) (r : Row) → isPending r ≡ false → ws ≡ notedIn ws place r
@@ -60,6 +60,26 @@ pub row-used : (s : State) (place : ℕ) (at : RowScan) (r : Row) (t : Bool) (ws
     → ws ≡ notedIn (at .waiting) place r
     → _≡_ {A = RowScan} (record { ok = at .ok && t; left = at .left - 1; waiting = ws }) (scanRow s place at r)
 row-used s place at r t ws h e f = rw (ne-eqb (at .left) 0 h, e, f)
+
+-- ---- whose replies ended its phases
+
+pub query-write : (s : State) (r : Row) → isWrite (r .kind) ≡ true → eqb (r .replied .query) 0 ≡ queryFits s r
+query-write s r h =
+    sym
+    (ap (λ (b : Bool). cond b (eqb (r .replied .query) 0) (enough s (r .replied .query) || (eqb (r .answered .0) 0 && eqb (r .replied .query) 0))) h)
+
+pub query-read : (s : State) (r : Row) (t : Bool) → isWrite (r .kind) ≡ false → t ≡ enough s (r .replied .query)
+    → (t || (eqb (r .answered .0) 0 && eqb (r .replied .query) 0)) ≡ queryFits s r
+query-read s r t h e =
+    ap (λ (b : Bool). b || (eqb (r .answered .0) 0 && eqb (r .replied .query) 0)) e
+    ∙ sym
+    (ap (λ (b : Bool). cond b (eqb (r .replied .query) 0) (enough s (r .replied .query) || (eqb (r .answered .0) 0 && eqb (r .replied .query) 0))) h)
+
+pub update-pending : (s : State) (r : Row) → r .answered .0 ≡ 0 → eqb (r .replied .update) 0 ≡ updateFits s r
+update-pending s r h = sym (ap (λ (b : Bool). cond b (eqb (r .replied .update) 0) (enough s (r .replied .update))) (eq-eqb (r .answered .0) 0 h))
+
+pub update-done : (s : State) (r : Row) (t : Bool) → (r .answered .0 ≡ 0 → ⊥) → t ≡ enough s (r .replied .update) → t ≡ updateFits s r
+update-done s r t h e = e ∙ sym (ap (λ (b : Bool). cond b (eqb (r .replied .update) 0) (enough s (r .replied .update))) (ne-eqb (r .answered .0) 0 h))
 
 -- ---- replicas
 

@@ -2,7 +2,7 @@
 use mathlib.Core.Path.{_≡_, refl, sym, ap, _∙_}
 use Prim.Native.Nat.{ℕ, zero, suc, _+_, _-_, _*_, _%_, _^_, _<_, _≤_}
 use native.Mathlib.Omega.{arith}
-use mathlib.Core.Bool.{Bool, true, false, not, _&&_, and-false, and-assoc}
+use mathlib.Core.Bool.{Bool, true, false, not, _&&_, _||_, and-false, and-assoc}
 use mathlib.Core.List.{List, [], _∷_}
 use lib.Dec.{eqb, ltb, leb}
 use lib.ListN.{length, getD, take, drop, replicate}
@@ -20,14 +20,14 @@ use Rattle.replica.specs.declared.Replica.{Replica}
 use Rattle.tables.specs.declared.Row.{Row}
 use Rattle.state.specs.declared.Bench.{Bench}
 use Rattle.state.specs.State.{State, view, rowOf}
-use Rattle.state.specs.WellFormed.{every, countsFit, bodyFits, messageFits, rising, flightFits, isWrite, rowFits, historyFits}
+use Rattle.state.specs.WellFormed.{every, countsFit, bodyFits, messageFits, rising, flightFits, isWrite, enough, rowFits, historyFits}
 use Rattle.state.specs.WellFormed.{pendingOf, isOnly, phaseFits, pairsFit, replicaFits, eachFits, replicasFit, wellFormed}
 use Rattle.state.specs.Tabled.{isEmptyMessage, isEmptyRow, tabled}
 use Rattle.judge.specs.declared.Waiting.{Waiting}
 use Rattle.judge.specs.Scans.{limitsOf, limited, countsJudged, startMessages, scanMessages, noWaiting, startRows, scanRows}
 use Rattle.judge.specs.Scans.{phaseJudged, replicaJudged, eachJudged, replicasJudged, judged}
 use Rattle.judge.specs.LoopLaws.{and-true}
-use Rattle.judge.specs.ScanLaws.{messages-seen, rows-seen, waits, waiting-seen, waits-none, waits-one, waits-kind}
+use Rattle.judge.specs.ScanLaws.{messages-seen, rows-seen, waits, waiting-seen, waits-none, waits-one, waits-row}
 
 -- ---- the tests look at nothing but the counts
 
@@ -55,18 +55,34 @@ pairs-same s (suc left) (p ∷ rest) = ap (λ (t : Bool). pairFits (s .accepted)
 
 -- ---- replicas
 
--- a test after one that failed does not matter
-under : (a b c d : Bool) → (a ≡ true → b ≡ c) → (a && b && d) ≡ (a && c && d)
-under true b c d h = ap (λ (t : Bool). t && d) (h refl)
-under false b c d h = refl
+-- tests after one that failed do not matter
+under : (a b c d e f : Bool) → (a ≡ true → b ≡ c) → (a ≡ true → e ≡ f) → (a && b && d && e) ≡ (a && c && d && f)
+under true b c d e f g h = rw (g refl, h refl) refl
+under false b c d e f g h = refl
+
+under-last : (a d e f : Bool) → (a ≡ true → e ≡ f) → (a && d && e) ≡ (a && d && f)
+under-last true d e f h = ap (λ (t : Bool). d && t) (h refl)
+under-last false d e f h = refl
 
 phase-same : (s : State) (p : ℕ) (phase : Phase) (repliers : ℕ) → phaseJudged (lim s) (waits p 0 noWaiting (s .rows)) phase repliers ≡ phaseFits s p phase repliers
 phase-same s p Idle repliers = ap (λ (t : Bool). t && eqb repliers 0) (waits-none p 0 (s .rows))
 phase-same s p (Querying row gathered) repliers =
-    ap (λ (t : Bool). t && not (waits p 0 noWaiting (s .rows) .write) && pairFits (s .accepted) (s .n) (gathered .best)) (waits-one p 0 row (s .rows))
-    ∙ under (isOnly row (pendingOf p 1 (s .rows))) (not (waits p 0 noWaiting (s .rows) .write)) (not (isWrite (rowOf s row .kind))) (pairFits (s .accepted) (s .n) (gathered .best))
-    (λ h. ap not (waits-kind p 0 row (s .rows) h))
-phase-same s p (Updating row sent) repliers = ap (λ (t : Bool). t && pairFits (s .accepted) (s .n) sent) (waits-one p 0 row (s .rows))
+    ap (λ (t : Bool). t && not (seen .write) && pairFits (s .accepted) (s .n) (gathered .best) && eqb (seen .query) 0) (waits-one p 0 row (s .rows))
+    ∙ under (isOnly row (pendingOf p 1 (s .rows))) (not (seen .write)) (not (isWrite (rowOf s row .kind))) (pairFits (s .accepted) (s .n) (gathered .best)) (eqb (seen .query) 0)
+    (eqb (rowOf s row .replied .query) 0) (λ h. ap not (waits-row p 0 row (s .rows) h .0)) (λ h. ap (λ (q : ℕ). eqb q 0) (waits-row p 0 row (s .rows) h .1))
+  where
+    seen : Waiting
+    seen = waits p 0 noWaiting (s .rows)
+phase-same s p (Updating row sent) repliers =
+    ap (λ (t : Bool). t && pairFits (s .accepted) (s .n) sent && ended (seen .write) (seen .query)) (waits-one p 0 row (s .rows))
+    ∙ under-last (isOnly row (pendingOf p 1 (s .rows))) (pairFits (s .accepted) (s .n) sent) (ended (seen .write) (seen .query)) (ended (isWrite (rowOf s row .kind)) (rowOf s row .replied .query))
+    (λ h. ap (λ (b : Bool). ended b (seen .query)) (waits-row p 0 row (s .rows) h .0) ∙ ap (ended (isWrite (rowOf s row .kind))) (waits-row p 0 row (s .rows) h .1))
+  where
+    seen : Waiting
+    seen = waits p 0 noWaiting (s .rows)
+
+    ended : Bool → ℕ → Bool
+    ended write query = write || enough s query
 
 replica-same : (s : State) (p : ℕ) (r : Replica) → replicaJudged (lim s) (waits p 0 noWaiting (s .rows)) r ≡ replicaFits s p r
 replica-same s p r = rw (pairs-same s (s .m) (r .pairs), phase-same s p (r .phase) (r .repliers)) (simp and-assoc)

@@ -15,6 +15,7 @@ use words::Message;
 mod counts;
 mod messages;
 mod replicas;
+mod replied;
 mod rows;
 
 // The counts that the tests look at.
@@ -32,12 +33,14 @@ pub struct Scan {
     pub left: u16,
 }
 
-// What was seen of one process's pending rows: whether there is one, whether there are several, and the first one's place and kind.
+// What was seen of one process's pending rows: whether there is one, whether there are several, and the first one's place and kind, and whose
+// replies ended its query phase.
 pub struct Waiting {
     pub some: bool,
     pub several: bool,
     pub place: usize,
     pub write: bool,
+    pub query: u8,
 }
 
 // What was seen of the rows: whether all fit, how many are still in use, and the pending ones of each process.

@@ -16,6 +16,7 @@ use crate::Limits;
 use crate::RowScan;
 use crate::Waiting;
 use crate::counts;
+use crate::replied::is_enough;
 use crate::rows::is_zero;
 use replica::Phase;
 use replica::Replica;
@@ -77,9 +78,11 @@ fn phase_fits(l: Limits, w: Waiting, phase: Phase, repliers: u8) -> bool
     match phase {
         Phase::Idle => !w.some & (repliers == 0),
         Phase::Querying(row, gathered) => {
-            is_one(w, row) & !w.write & pair_fits(gathered.best, l.accepted, l.n)
+            is_one(w, row) & !w.write & pair_fits(gathered.best, l.accepted, l.n) & (w.query == 0)
         }
-        Phase::Updating(row, sent) => is_one(w, row) & pair_fits(sent, l.accepted, l.n),
+        Phase::Updating(row, sent) => {
+            is_one(w, row) & pair_fits(sent, l.accepted, l.n) & (w.write | is_enough(l, w.query))
+        }
     }
 }
 

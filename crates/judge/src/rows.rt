@@ -7,6 +7,7 @@ ghost use Rattle.judge.specs.Scans.{limited, isPending, noted, notedIn, 
 use crate::Limits;
 use crate::RowScan;
 use crate::Waiting;
+use crate::replied;
 use tables::Kind;
 use tables::Row;
 use words::Pair;
@@ -16,7 +17,7 @@ use words::limits::ROWS;
 use words::ranges::is_within;
 use words::ranges::pair_fits;
 
-fn is_write(kind: Kind) -> bool
+pub fn is_write(kind: Kind) -> bool
     ensures { λ r. ⌜ r ≡ isWrite kind ⌝ }
 {
     match kind {
@@ -46,6 +47,8 @@ fn row_fits(l: Limits, r: Row) -> bool
         & (r.answered.0 <= l.accepted)
         & pair_fits(pair, l.accepted, l.n)
         & (!is_write(kind) | (r.stamp.time.0 != 0))
+        & replied::query_fits(l, r)
+        & replied::update_fits(l, r)
 }
 
 fn is_empty_row(r: Row) -> bool
@@ -60,6 +63,8 @@ fn is_empty_row(r: Row) -> bool
         & (r.stamp.time.0 == 0)
         & (r.stamp.process.0 == 0)
         & is_zero(r.value)
+        & (r.replied.query == 0)
+        & (r.replied.update == 0)
 }
 
 // A row of a process that was not answered yet.
@@ -70,8 +75,8 @@ fn is_pending(r: Row) -> bool
 }
 
 // One more pending row of a process.
-fn one_more(w: Waiting, place: usize, write: bool) -> Waiting
-    ensures { λ r. ⌜ r ≡ noted w place write ⌝ }
+fn one_more(w: Waiting, place: usize, write: bool, query: u8) -> Waiting
+    ensures { λ r. ⌜ r ≡ noted w place write query ⌝ }
 {
     if w.some {
         Waiting {
@@ -79,6 +84,7 @@ fn one_more(w: Waiting, place: usize, write: bool) -> Waiting
             several: true,
             place: w.place,
             write: w.write,
+            query: w.query,
         }
     } else {
         Waiting {
@@ -86,6 +92,7 @@ fn one_more(w: Waiting, place: usize, write: bool) -> Waiting
             several: false,
             place: place,
             write: write,
+            query: query,
         }
     }
 }
@@ -100,7 +107,7 @@ fn note(waiting: [Waiting; 7], place: usize, r: Row) -> [Waiting; 7]
         let write = is_write(kind);
         let old = waiting[at];
         let mut next = waiting;
-        next[at] = one_more(old, place, write);
+        next[at] = one_more(old, place, write, r.replied.query);
         next
     } else {
         waiting
@@ -116,6 +123,7 @@ pub fn start_rows(places: usize, rows: u16) -> RowScan
         several: false,
         place: 0,
         write: false,
+        query: 0,
     };
     RowScan {
         ok: (places == ROW_PLACES) & (rows <= ROWS),

@@ -14,7 +14,7 @@ use Rattle.format.specs.Format.{fileRefusal}
 use Rattle.format.specs.FileLaws.{file-opens}
 use Rattle.schedule.specs.Opening.{ranFile}
 use Rattle.schedule.specs.FileLaws.{file-reached}
-use Rattle.consistency.specs.SoundLaws.{reached-sound}
+use Rattle.consistency.specs.SoundLaws.{answered-later}
 use Rattle.figures.specs.Figures.{isComplete}
 use Rattle.sheets.specs.Totals.{rowsOf, Completed}
 
@@ -33,7 +33,7 @@ module _ (bytes : List ℕ) (row : Row) (complete : isComplete row ≡ true) whe
   of-run accepted m =
       let reached : Reached (ranFile bytes .state) = file-reached bytes (file-opens bytes accepted) in
       let (j, l, e) = member-place emptyRow m in
-      subst (λ (r : Row). (r .answered .0 ≡ 0 → ⊥) → r .invoked .0 < r .answered .0) e (λ n. reached-sound reached .rows j l .done n .later) answered
+      subst (λ (r : Row). (r .answered .0 ≡ 0 → ⊥) → r .invoked .0 < r .answered .0) e (answered-later reached j l) answered
 
   pub invoked-first : List·Memᴰ row (rowsOf bytes) → row .invoked .0 < row .answered .0
   invoked-first m = go (eqb (fileRefusal bytes) 0) refl m

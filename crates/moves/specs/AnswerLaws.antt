@@ -14,7 +14,7 @@ use Rattle.words.specs.Stamps.{newer}
 use Rattle.replica.specs.declared.Answer.{Answer}
 use Rattle.replica.specs.declared.AckCounts.{AckCounts}
 use Rattle.replica.specs.declared.AckCounts.the-variants.{Not as NoAck, For as AckFor}
-use Rattle.replica.specs.declared.Ended.the-variants.{Pending, At as Ended}
+use Rattle.replica.specs.declared.Ended.the-variants.{Pending, Query as Queried, At as Ended}
 use Rattle.replica.specs.declared.Gathered.{Gathered}
 use Rattle.replica.specs.declared.Phase.{Phase}
 use Rattle.replica.specs.declared.Phase.the-variants.{Idle, Querying, Updating}
@@ -84,7 +84,9 @@ module _ (s : State) (i : ℕ) where
     counts-answer few = counted-response ∙ rw (lt-leb _ _ few) refl
 
     pub chooses-answer : needed s (Querying row gathered) ≤ counted (repliersThen s i)
-        → answerAt ≡ accepted (ending s i (Updating row (newer (gathered .best) pair))) (telling s i (rowOf s row .register) (newer (gathered .best) pair)) Pending
+        → answerAt
+        ≡ accepted (ending s i (Updating row (newer (gathered .best) pair))) (telling s i (rowOf s row .register) (newer (gathered .best) pair))
+        (Queried (repliersThen s i))
     unfolding responseCounted
     chooses-answer enough = counted-response ∙ rw (le-leb _ _ enough) refl
 
@@ -102,7 +104,7 @@ module _ (s : State) (i : ℕ) where
     gathers-answer few = counted-ack ∙ rw (lt-leb _ _ few) refl
 
     pub completes-answer : needed s (Updating row sent) ≤ counted (repliersThen s i)
-        → answerAt ≡ accepted (ending s i Idle) Nothing (Ended (record { 0 = clockThen s i }) sent)
+        → answerAt ≡ accepted (ending s i Idle) Nothing (Ended (record { 0 = clockThen s i }) sent (repliersThen s i))
     unfolding ackCounted
     completes-answer enough = counted-ack ∙ rw (le-leb _ _ enough) refl
 

@@ -41,13 +41,13 @@ many-shift f a (suc left) = ap (λ k. one (f (suc a)) + k) (many-shift f (suc a)
 
 -- ---- the ones of a number, place by place
 
-abbrev isSet : ℕ → ℕ → Bool
+abbrev pub isSet : ℕ → ℕ → Bool
 isSet s q = eqb (s / 2 ^ q % 2) 1
 
-set-first : (s : ℕ) → one (isSet s 0) ≡ s % 2
+pub set-first : (s : ℕ) → one (isSet s 0) ≡ s % 2
 set-first s = rw (div-one s) (elim (ℕ-discrete (s % 2) 1) [ yes e ↦ rw e refl | no n ↦ rw (ne-eqb _ _ n) (omega arith) ])
 
-set-next : (s q : ℕ) → isSet s (suc q) ≡ isSet (s / 2) q
+pub set-next : (s q : ℕ) → isSet s (suc q) ≡ isSet (s / 2) q
 set-next s q = rw (← one-add q, ← shr-shr s 1 q)
 
 ones-many : (k s : ℕ) → s < 2 ^ k → ones s ≡ howMany (isSet s) 0 k

@@ -7,9 +7,10 @@ use lib.Dec.{leb}
 use lib.ListN.{length}
 use borrow.Author.Tests.{not-false, leb-false, ltb-false, lt-leb, le-ltb}
 use Rattle.words.specs.Ranges.{within}
+use Rattle.words.specs.Stamps.{newer}
 use Rattle.replica.specs.declared.Answer.{Answer}
-use Rattle.replica.specs.declared.Ended.the-variants.{At as Ended}
-use Rattle.replica.specs.declared.Phase.the-variants.{Idle}
+use Rattle.replica.specs.declared.Ended.the-variants.{Query as Queried, At as Ended}
+use Rattle.replica.specs.declared.Phase.the-variants.{Idle, Updating}
 use Rattle.replica.specs.declared.Sends.the-variants.{Nothing}
 use Rattle.replica.specs.Handlers.{isIdle, readRule, writeRule, crashRule, crashed}
 use Rattle.replica.specs.Numbers.{sentBy, pointed}
@@ -18,7 +19,7 @@ use Rattle.tables.specs.declared.Found.the-variants.{At, Missing}
 use Rattle.tables.specs.Tables.{seek, removed}
 use Rattle.state.specs.declared.Event.{Event}
 use Rattle.state.specs.declared.Event.the-variants.{Read, Write, Deliver, Crash, Lose}
-use Rattle.state.specs.State.{State, replicaOf, fresh}
+use Rattle.state.specs.State.{State, replicaOf, rowOf, fresh}
 use Rattle.state.specs.Step.{Outcome, outcome, noRoom, loseAt}
 use Rattle.state.specs.Step.{moved, answeredRows}
 use Rattle.state.specs.Step.{step}
@@ -28,7 +29,7 @@ use Rattle.state.specs.Reached.Reached.{start, next as after}
 use Rattle.state.specs.PairLaws.{within-ok, ok-within}
 use Rattle.moves.specs.Free.{freeInvoke, freeReceive, freeDeliver, freeStep, FreelyReached}
 use Rattle.moves.specs.Free.FreelyReached.{start as freely, next as then}
-use Rattle.moves.specs.Move.{Begins, Delivers, clockThen, ending, arrived as taken, Move}
+use Rattle.moves.specs.Move.{Begins, Delivers, clockThen, repliersThen, ending, telling, arrived as taken, Move}
 use Rattle.moves.specs.Move.Move.{reads, writes, responds, stores, discards, counts, chooses, gathers, completes, crashes, loses}
 use Rattle.moves.specs.AnswerLaws.{answerAt, query-answer, update-answer, discards-answer}
 use Rattle.moves.specs.AnswerLaws.{counts-answer, chooses-answer, gathers-answer, completes-answer}
@@ -117,11 +118,15 @@ moves-free {s} (responds k i x d e) = delivered-free s k i 1 d _ (query-answer s
 moves-free {s} (stores k i x pair d e) = delivered-free s k i 1 d _ (update-answer s i x pair e) refl
 moves-free {s} (discards k i d e) = delivered-free s k i 0 d _ (discards-answer s i e) refl
 moves-free {s} (counts k i row gathered pair d c l) = delivered-free s k i 0 d _ (counts-answer s i row gathered pair c l) refl
-moves-free {s} (chooses k i row gathered pair d c l) = delivered-free s k i (s .n) d _ (chooses-answer s i row gathered pair c l) refl
+moves-free {s} (chooses k i row gathered pair d c l) =
+    delivered-free s k i (s .n) d _ (chooses-answer s i row gathered pair c l) refl
+    ∙ ap (λ number. accepting (taken s i (ending s i (Updating row (newer (gathered .best) pair)))
+    (telling s i (rowOf s row .register) (newer (gathered .best) pair)) (answeredRows (s .rows) number (Queried (repliersThen s i)))))
+    (ap pointed (c .phase))
 moves-free {s} (gathers k i row sent d c l) = delivered-free s k i 0 d _ (gathers-answer s i row sent c l) refl
 moves-free {s} (completes k i row sent d c l) =
     delivered-free s k i 0 d _ (completes-answer s i row sent c l) refl
-    ∙ ap (λ number. accepting (taken s i (ending s i Idle) Nothing (answeredRows (s .rows) number (Ended (record { 0 = clockThen s i }) sent))))
+    ∙ ap (λ number. accepting (taken s i (ending s i Idle) Nothing (answeredRows (s .rows) number (Ended (record { 0 = clockThen s i }) sent (repliersThen s i)))))
     (ap pointed (c .phase))
 moves-free {s} (crashes p a up) = accepts s _ _ (rw (ok-within a, up) refl)
 moves-free {s} (loses k i f down) = ap (loseAt s) f ∙ accepts s _ _ (rw down refl)

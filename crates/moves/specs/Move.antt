@@ -29,7 +29,7 @@ use Rattle.tables.specs.Tables.{seek, removed}
 use Rattle.state.specs.declared.Event.{Event}
 use Rattle.state.specs.declared.Event.the-variants.{Read, Write, Deliver, Crash, Lose}
 use Rattle.state.specs.State.{State, replicaOf, rowOf}
-use Rattle.state.specs.Step.{readRow, writeRow, completed, moved, withoutMessage}
+use Rattle.state.specs.Step.{readRow, writeRow, queriedRow, completed, moved, withoutMessage}
 use Rattle.state.specs.Accepted.{messageAt, recipientAt}
 use Rattle.state.specs.PairLaws.{Within}
 use Rattle.moves.specs.Needed.{needed}
@@ -159,18 +159,19 @@ pub data Move (s : State) : Event → State → Type 0 where
   counts : (k i row : ℕ) (gathered : Gathered) (pair : Pair) → Delivers s k i 0 → Responds s i row gathered pair
       → counted (repliersThen s i) < needed s (Querying row gathered)
       → Move s (Deliver k) (arrived s i (counting s i (Querying row (gatheredWith gathered pair))) Nothing (s .rows))
-  -- a response ends the query phase: the greatest pair is chosen, and all are told
+  -- a response ends the query phase: the greatest pair is chosen, all are told, and the row names those who replied
   chooses : (k i row : ℕ) (gathered : Gathered) (pair : Pair) → Delivers s k i (s .n) → Responds s i row gathered pair
       → needed s (Querying row gathered) ≤ counted (repliersThen s i)
       → Move s (Deliver k)
-      (arrived s i (ending s i (Updating row (newer (gathered .best) pair))) (telling s i (rowOf s row .register) (newer (gathered .best) pair)) (s .rows))
+      (arrived s i (ending s i (Updating row (newer (gathered .best) pair))) (telling s i (rowOf s row .register) (newer (gathered .best) pair))
+      (set (s .rows) (row - 1) (queriedRow (rowOf s row) (repliersThen s i))))
   -- an ack is counted, and more are needed
   gathers : (k i row : ℕ) (sent : Pair) → Delivers s k i 0 → Acks s i row sent → counted (repliersThen s i) < needed s (Updating row sent)
       → Move s (Deliver k) (arrived s i (counting s i (Updating row sent)) Nothing (s .rows))
-  -- an ack ends the update phase: the operation completes at this clock
+  -- an ack ends the update phase: the operation completes at this clock, and the row names those who acked
   completes : (k i row : ℕ) (sent : Pair) → Delivers s k i 0 → Acks s i row sent → needed s (Updating row sent) ≤ counted (repliersThen s i)
       → Move s (Deliver k)
-      (arrived s i (ending s i Idle) Nothing (set (s .rows) (row - 1) (completed (rowOf s row) (record { 0 = clockThen s i }) sent)))
+      (arrived s i (ending s i Idle) Nothing (set (s .rows) (row - 1) (completed (rowOf s row) (record { 0 = clockThen s i }) sent (repliersThen s i))))
   -- a process crashes, and takes no further step
   crashes : (p : Pid) → Within (p .0) (s .n) → replicaOf s (p .0) .crashed ≡ false → Move s (Crash p) (crashedNow s (p .0))
   -- a message from or to a crashed process is lost

@@ -9,8 +9,9 @@ use Rattle.words.specs.declared.Body.{Body}
 use Rattle.words.specs.declared.Body.the-variants.{Query, Response, Update, Ack}
 use Rattle.words.specs.declared.Pair.{Pair}
 use Rattle.words.specs.Quorum.{counted}
+use Rattle.words.specs.Stamps.{newer}
 use Rattle.replica.specs.declared.Answer.{Answer}
-use Rattle.replica.specs.declared.Ended.the-variants.{Pending, At as Ended}
+use Rattle.replica.specs.declared.Ended.the-variants.{Pending, Query as Queried, At as Ended}
 use Rattle.replica.specs.declared.Gathered.{Gathered}
 use Rattle.replica.specs.declared.Phase.{Phase}
 use Rattle.replica.specs.declared.Phase.the-variants.{Idle, Querying, Updating}
@@ -21,13 +22,13 @@ use Rattle.tables.specs.declared.Found.the-variants.{At}
 use Rattle.tables.specs.Tables.{seek, removed}
 use Rattle.state.specs.declared.Event.{Event}
 use Rattle.state.specs.declared.Event.the-variants.{Read, Write, Deliver, Crash, Lose}
-use Rattle.state.specs.State.{State, replicaOf}
+use Rattle.state.specs.State.{State, replicaOf, rowOf}
 use Rattle.state.specs.Step.{moved, answeredRows, step}
 use Rattle.state.specs.Accepted.{messageAt, recipientAt, deliverNext, Invoked}
 use Rattle.state.specs.Accepted.{read-accepted, write-accepted, deliver-accepted, crash-accepted, lose-accepted}
 use Rattle.moves.specs.Needed.{needed}
 use Rattle.moves.specs.Stages.{isReply, stageOf, stageFor}
-use Rattle.moves.specs.Move.{Begins, Delivers, Responds, Acks, Discarded, clockThen, repliersThen, ending, Move}
+use Rattle.moves.specs.Move.{Begins, Delivers, Responds, Acks, Discarded, clockThen, repliersThen, ending, telling, Move}
 use Rattle.moves.specs.Move.Move.{reads, writes, responds, stores, discards, counts, chooses, gathers, completes, crashes, loses}
 use Rattle.moves.specs.AnswerLaws.{answerAt, query-answer, update-answer, discards-answer}
 use Rattle.moves.specs.AnswerLaws.{counts-answer, chooses-answer, gathers-answer, completes-answer}
@@ -62,11 +63,24 @@ module _ (s : State) (k i : ℕ) (found : seek k 0 (s .flight) ≡ At i) (up : r
   response-taken : (pair : Pair) → messageAt s i .body ≡ Response pair → Taken (answerAt s i)
   response-taken pair e = by (recipientAt s i .phase) refl
     where
+      -- the row whose query phase ends is the one that the phase points to
+      chosen-taken : (row : ℕ) (gathered : Gathered) → Responds s i row gathered pair → needed s (Querying row gathered) ≤ counted (repliersThen s i)
+          → Taken (accepted (ending s i (Updating row (newer (gathered .best) pair)))
+          (telling s i (rowOf s row .register) (newer (gathered .best) pair)) (Queried (repliersThen s i)))
+      chosen-taken row gathered c l room =
+          subst
+          (λ (number : ℕ).
+          Move s (Deliver k)
+          (moved s (messageAt s i .to .0)
+          (accepted (ending s i (Updating row (newer (gathered .best) pair))) (telling s i (rowOf s row .register) (newer (gathered .best) pair)) Pending)
+          (removed i (s .flight)) (s .delivered + 1) (answeredRows (s .rows) number (Queried (repliersThen s i)))))
+          (sym (ap pointed (c .phase)))
+          (chooses k i row gathered pair (with-room (s .n) room) c l)
+
       counted-taken : (row : ℕ) (gathered : Gathered) → Responds s i row gathered pair → Taken (answerAt s i)
       counted-taken row gathered c =
           elim (decLe (needed s (Querying row gathered)) (counted (repliersThen s i))) [
-            | yes l ↦
-                taken-as _ (chooses-answer s i row gathered pair c l) (λ room. chooses k i row gathered pair (with-room (s .n) room) c l)
+            | yes l ↦ taken-as _ (chooses-answer s i row gathered pair c l) (chosen-taken row gathered c l)
             | no n ↦
                 let l : counted (repliersThen s i) < needed s (Querying row gathered) = omega arith in
                 taken-as _ (counts-answer s i row gathered pair c l) (λ room. counts k i row gathered pair (with-room 0 room) c l)
@@ -86,13 +100,13 @@ module _ (s : State) (k i : ℕ) (found : seek k 0 (s .flight) ≡ At i) (up : r
     where
       -- the row that is completed is the one that the phase points to
       completed-taken : (row : ℕ) (sent : Pair) → Acks s i row sent → needed s (Updating row sent) ≤ counted (repliersThen s i)
-          → Taken (accepted (ending s i Idle) Nothing (Ended (record { 0 = clockThen s i }) sent))
+          → Taken (accepted (ending s i Idle) Nothing (Ended (record { 0 = clockThen s i }) sent (repliersThen s i)))
       completed-taken row sent c l room =
           subst
           (λ (number : ℕ).
           Move s (Deliver k)
           (moved s (messageAt s i .to .0) (accepted (ending s i Idle) Nothing Pending) (removed i (s .flight)) (s .delivered + 1)
-          (answeredRows (s .rows) number (Ended (record { 0 = clockThen s i }) sent))))
+          (answeredRows (s .rows) number (Ended (record { 0 = clockThen s i }) sent (repliersThen s i)))))
           (sym (ap pointed (c .phase)))
           (completes k i row sent (with-room 0 room) c l)
 

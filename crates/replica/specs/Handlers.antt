@@ -20,7 +20,7 @@ use Rattle.replica.specs.declared.Letter.{Letter}
 use Rattle.replica.specs.declared.Sends.{Sends}
 use Rattle.replica.specs.declared.Sends.the-variants.{Nothing, Reply, Broadcast}
 use Rattle.replica.specs.declared.Ended.{Ended}
-use Rattle.replica.specs.declared.Ended.the-variants.{Pending, At}
+use Rattle.replica.specs.declared.Ended.the-variants.{Pending, Query as Queried, At}
 use Rattle.replica.specs.declared.Answer.{Answer}
 use Rattle.replica.specs.declared.Gathered.{Gathered}
 use Rattle.replica.specs.declared.ResponseCounts.{ResponseCounts}
@@ -102,7 +102,7 @@ updateRule r from time rid x pair =
     Pending
 
 -- A response that counts. The one that makes a majority: the greatest pair counted is chosen, the set is emptied, request number + 1, update
--- with that pair is broadcast
+-- with that pair is broadcast; the query phase ended by the replies of that set
 unfoldable pub responseCounted : Replica → ℕ → ℕ → Pid → Time → ℕ → Gathered → Answer
 responseCounted r n x from time row gathered =
     let clock = after (r .clock .0) (time .0) in
@@ -110,10 +110,11 @@ responseCounted r n x from time row gathered =
     let repliers = joined (r .repliers) (from .0) in
     cond
     (leb (majorityOf n) (counted repliers))
-    (accepted (became r clock rid (Updating row (gathered .best)) 0 (r .pairs)) (broadcastOf clock rid (Update x (gathered .best))) Pending)
+    (accepted (became r clock rid (Updating row (gathered .best)) 0 (r .pairs)) (broadcastOf clock rid (Update x (gathered .best))) (Queried repliers))
     (accepted (became r clock (r .rid .0) (Querying row gathered) repliers (r .pairs)) Nothing Pending)
 
--- An ack that counts. The one that makes a majority: the set is emptied, request number + 1, the operation completes at this clock
+-- An ack that counts. The one that makes a majority: the set is emptied, request number + 1, the operation completes at this clock, by the acks
+-- of that set
 unfoldable pub ackCounted : Replica → ℕ → Pid → Time → ℕ → Pair → Answer
 ackCounted r n from time row sent =
     let clock = after (r .clock .0) (time .0) in
@@ -121,7 +122,7 @@ ackCounted r n from time row sent =
     let repliers = joined (r .repliers) (from .0) in
     cond
     (leb (majorityOf n) (counted repliers))
-    (accepted (became r clock rid Idle 0 (r .pairs)) Nothing (At (record { 0 = clock }) sent))
+    (accepted (became r clock rid Idle 0 (r .pairs)) Nothing (At (record { 0 = clock }) sent repliers))
     (accepted (became r clock (r .rid .0) (Updating row sent) repliers (r .pairs)) Nothing Pending)
 
 -- A response counts only while the replica is querying, and only with the present request number

@@ -124,10 +124,8 @@ impl Replica {
             let rid = Rid(self.rid.0 + 1);
             let best = gathered.best;
             self = store::move_to(self, clock, rid, Phase::Updating(row, best), 0);
-            sending::accept(
-                self,
-                sending::broadcast(clock, rid, Body::Update(register, best)),
-            )
+            let sends = sending::broadcast(clock, rid, Body::Update(register, best));
+            sending::conclude(self, sends, Ended::Query(repliers))
         } else {
             let rid = self.rid;
             self = store::move_to(self, clock, rid, Phase::Querying(row, gathered), repliers);
@@ -175,12 +173,7 @@ impl Replica {
         if quorum::is_majority(repliers, n) {
             let rid = Rid(self.rid.0 + 1);
             self = store::move_to(self, clock, rid, Phase::Idle, 0);
-            Answer {
-                refusal: 0,
-                replica: self,
-                sends: Sends::Nothing,
-                ended: Ended::At(clock, sent),
-            }
+            sending::conclude(self, Sends::Nothing, Ended::At(clock, sent, repliers))
         } else {
             let rid = self.rid;
             self = store::move_to(self, clock, rid, Phase::Updating(row, sent), repliers);

@@ -53,10 +53,12 @@ pub enum Sends {
     Broadcast(Letter),
 }
 
-// Whether the operation ended: not yet, or at this response time with the chosen pair.
+// Whether a phase ended: none; the query phase, by the replies of these processes, and the operation goes on; or the operation, at this
+// response time with the chosen pair, by the acks of these.
 pub enum Ended {
     Pending,
-    At(Time, Pair),
+    Query(u8),
+    At(Time, Pair, u8),
 }
 
 // What a handler answers: a number of document 01 (0 is accepted), and what follows.

@@ -26,11 +26,18 @@ pub fn refuse(number: u8, replica: Replica) -> Answer
 pub fn accept(replica: Replica, sends: Sends) -> Answer
     ensures { λ r. ⌜ r ≡ accepted replica sends Pending ⌝ }
 {
+    conclude(replica, sends, Ended::Pending)
+}
+
+// A phase may have ended.
+pub fn conclude(replica: Replica, sends: Sends, ended: Ended) -> Answer
+    ensures { λ r. ⌜ r ≡ accepted replica sends ended ⌝ }
+{
     Answer {
         refusal: 0,
         replica: replica,
         sends: sends,
-        ended: Ended::Pending,
+        ended: ended,
     }
 }
 

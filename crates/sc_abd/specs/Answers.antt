@@ -13,7 +13,7 @@ use Rattle.words.specs.declared.Time.{Time}
 use Rattle.words.specs.Quorum.{joined, counted, majorityOf}
 use Rattle.replica.specs.declared.Answer.{Answer}
 use Rattle.replica.specs.declared.AckCounts.the-variants.{Not as NoAck, For as AckFor}
-use Rattle.replica.specs.declared.Ended.the-variants.{Pending, At}
+use Rattle.replica.specs.declared.Ended.the-variants.{Pending, Query as Queried, At}
 use Rattle.replica.specs.declared.Gathered.{Gathered}
 use Rattle.replica.specs.declared.Phase.{Phase}
 use Rattle.replica.specs.declared.Phase.the-variants.{Idle, Querying, Updating}
@@ -28,39 +28,43 @@ use Rattle.state.specs.State.{State}
 use Rattle.state.specs.Step.{askedRegister}
 use Rattle.state.specs.Accepted.{plainBy}
 
+-- the repliers with the sender
+abbrev pub withSender : Replica → Pid → ℕ
+withSender r from = joined (r .repliers) (from .0)
+
 -- with the sender the repliers are a majority
 abbrev pub isMajority : ℕ → Replica → Pid → Bool
-isMajority n r from = leb (majorityOf n) (counted (joined (r .repliers) (from .0)))
+isMajority n r from = leb (majorityOf n) (counted (withSender r from))
 
 -- the greatest pair is chosen, and sent to all
-abbrev pub chosen : Replica → ℕ → Time → ℕ → Pair → Answer
-chosen r x time row best =
+abbrev pub chosen : Replica → ℕ → Pid → Time → ℕ → Pair → Answer
+chosen r x from time row best =
     let clock = after (r .clock .0) (time .0) in
     let rid = r .rid .0 + 1 in
-    accepted (became r clock rid (Updating row best) 0 (r .pairs)) (broadcastOf clock rid (Update x best)) Pending
+    accepted (became r clock rid (Updating row best) 0 (r .pairs)) (broadcastOf clock rid (Update x best)) (Queried (withSender r from))
 
 -- the operation completes
-abbrev pub ended : Replica → Time → Pair → Answer
-ended r time sent =
+abbrev pub ended : Replica → Pid → Time → Pair → Answer
+ended r from time sent =
     let clock = after (r .clock .0) (time .0) in
-    accepted (became r clock (r .rid .0 + 1) Idle 0 (r .pairs)) Nothing (At (record { 0 = clock }) sent)
+    accepted (became r clock (r .rid .0 + 1) Idle 0 (r .pairs)) Nothing (At (record { 0 = clock }) sent (withSender r from))
 
 -- the sender is counted
 abbrev pub asking : Replica → Pid → Time → ℕ → Gathered → Answer
 asking r from time row gathered =
-    accepted (became r (after (r .clock .0) (time .0)) (r .rid .0) (Querying row gathered) (joined (r .repliers) (from .0)) (r .pairs)) Nothing Pending
+    accepted (became r (after (r .clock .0) (time .0)) (r .rid .0) (Querying row gathered) (withSender r from) (r .pairs)) Nothing Pending
 
 abbrev pub waiting : Replica → Pid → Time → ℕ → Pair → Answer
 waiting r from time row sent =
-    accepted (became r (after (r .clock .0) (time .0)) (r .rid .0) (Updating row sent) (joined (r .repliers) (from .0)) (r .pairs)) Nothing Pending
+    accepted (became r (after (r .clock .0) (time .0)) (r .rid .0) (Updating row sent) (withSender r from) (r .pairs)) Nothing Pending
 
 pub response-answers : (r : Replica) (n x : ℕ) (from : Pid) (time : Time) (row : ℕ) (gathered : Gathered)
-    → responseCounted r n x from time row gathered ≡ cond (isMajority n r from) (chosen r x time row (gathered .best)) (asking r from time row gathered)
+    → responseCounted r n x from time row gathered ≡ cond (isMajority n r from) (chosen r x from time row (gathered .best)) (asking r from time row gathered)
 unfolding responseCounted
 response-answers r n x from time row gathered = refl
 
 pub ack-answers : (r : Replica) (n : ℕ) (from : Pid) (time : Time) (row : ℕ) (sent : Pair)
-    → ackCounted r n from time row sent ≡ cond (isMajority n r from) (ended r time sent) (waiting r from time row sent)
+    → ackCounted r n from time row sent ≡ cond (isMajority n r from) (ended r from time sent) (waiting r from time row sent)
 unfolding ackCounted
 ack-answers r n from time row sent = refl
 
@@ -73,11 +77,11 @@ pub data Answers (n x : ℕ) (r : Replica) (m : Message) : Body → Answer → T
   asks : (pair : Pair) (row : ℕ) (gathered : Gathered) → r .phase ≡ Querying row gathered → m .rid .0 ≡ r .rid .0 → isMajority n r (m .from) ≡ false
       → Answers n x r m (Response pair) (asking r (m .from) (m .time) row (gatheredWith gathered pair))
   chooses : (pair : Pair) (row : ℕ) (gathered : Gathered) → r .phase ≡ Querying row gathered → m .rid .0 ≡ r .rid .0 → isMajority n r (m .from) ≡ true
-      → Answers n x r m (Response pair) (chosen r x (m .time) row (gatheredWith gathered pair .best))
+      → Answers n x r m (Response pair) (chosen r x (m .from) (m .time) row (gatheredWith gathered pair .best))
   waits : (row : ℕ) (sent : Pair) → r .phase ≡ Updating row sent → m .rid .0 ≡ r .rid .0 → isMajority n r (m .from) ≡ false
       → Answers n x r m Ack (waiting r (m .from) (m .time) row sent)
   ends : (row : ℕ) (sent : Pair) → r .phase ≡ Updating row sent → m .rid .0 ≡ r .rid .0 → isMajority n r (m .from) ≡ true
-      → Answers n x r m Ack (ended r (m .time) sent)
+      → Answers n x r m Ack (ended r (m .from) (m .time) sent)
 
 module _ (n x : ℕ) (r : Replica) (m : Message) where
   abbrev Given : Body → Answer → Type 0
@@ -91,7 +95,7 @@ module _ (n x : ℕ) (r : Replica) (m : Message) where
   response-given pair (Querying row gathered) f = counts (eqb (m .rid .0) (r .rid .0)) refl
     where
       made : m .rid .0 ≡ r .rid .0 → (b : Bool) → isMajority n r (m .from) ≡ b
-          → Given (Response pair) (cond b (chosen r x (m .time) row (gatheredWith gathered pair .best)) (asking r (m .from) (m .time) row (gatheredWith gathered pair)))
+          → Given (Response pair) (cond b (chosen r x (m .from) (m .time) row (gatheredWith gathered pair .best)) (asking r (m .from) (m .time) row (gatheredWith gathered pair)))
       made present true h = Answers.chooses pair row gathered f present h
       made present false h = Answers.asks pair row gathered f present h
 
@@ -107,7 +111,7 @@ module _ (n x : ℕ) (r : Replica) (m : Message) where
   ack-given (Updating row sent) f = counts (eqb (m .rid .0) (r .rid .0)) refl
     where
       made : m .rid .0 ≡ r .rid .0 → (b : Bool) → isMajority n r (m .from) ≡ b
-          → Given Ack (cond b (ended r (m .time) sent) (waiting r (m .from) (m .time) row sent))
+          → Given Ack (cond b (ended r (m .from) (m .time) sent) (waiting r (m .from) (m .time) row sent))
       made present true h = Answers.ends row sent f present h
       made present false h = Answers.waits row sent f present h
 

@@ -2,12 +2,12 @@
 use Prim.Native.Nat.{ℕ, _-_, _≤_, _<_}
 use mathlib.Core.Path.{_≡_, refl, sym, ap, subst, _∙_}
 use mathlib.Core.Logic.{_≢_, _⊎_, inl, inr}
-use mathlib.Core.Bool.{true}
+use mathlib.Core.Bool.{Bool, true, false, false≢true}
 use mathlib.Core.List.{List, [], _∷_, _++_}
 use native.Mathlib.Decide.{ℕ-discrete}
 use native.Mathlib.Omega.{arith}
-use lib.ListN.{length, getD, List·getD-append}
-use lib.Seq.{getD-set-other}
+use lib.ListN.{length, getD, set, List·getD-append}
+use lib.Seq.{getD-set-same, getD-set-other}
 use borrow.Author.Tests.{leb-true}
 use Rattle.words.specs.declared.Body.{Body}
 use Rattle.words.specs.declared.Body.the-variants.{Ack}
@@ -17,7 +17,7 @@ use Rattle.words.specs.Quorum.{joined, counted, majorityOf}
 use Rattle.words.specs.QuorumLaws.{Inside, joined-inside}
 use Rattle.replica.specs.declared.Answer.{Answer}
 use Rattle.replica.specs.declared.Ended.{Ended}
-use Rattle.replica.specs.declared.Ended.the-variants.{Pending, At}
+use Rattle.replica.specs.declared.Ended.the-variants.{Pending, Query as Queried, At}
 use Rattle.replica.specs.declared.Phase.the-variants.{Updating}
 use Rattle.replica.specs.declared.Replica.{Replica}
 use Rattle.replica.specs.Handlers.{queryRule, updateRule}
@@ -28,7 +28,7 @@ use Rattle.tables.specs.Tables.{emptyRow, seek}
 use Rattle.state.specs.declared.Event.{Event}
 use Rattle.state.specs.declared.Event.the-variants.{Read, Write, Deliver, Crash, Lose}
 use Rattle.state.specs.State.{State, rowOf}
-use Rattle.state.specs.Step.{answeredRows, completed, step}
+use Rattle.state.specs.Step.{answeredRows, queriedRow, completed, step}
 use Rattle.state.specs.Accepted.{messageAt, recipientAt, plain, deliverNext}
 use Rattle.state.specs.Accepted.{read-accepted, write-accepted, deliver-accepted, crash-accepted, lose-accepted}
 use Rattle.state.specs.PairLaws.{Within}
@@ -54,7 +54,13 @@ pub record Completes (s : State) (e : Event) (row : ℕ) : Type 0 where
   pub processes : Inside (s .n) (joined (recipientAt s place .repliers) (messageAt s place .from .0))
   pub majority : majorityOf (s .n) ≤ counted (joined (recipientAt s place .repliers) (messageAt s place .from .0))
 
--- an answer ends nothing, or it is to such an ack
+-- an operation goes on, whether its query phase has ended or not
+abbrev goesOn : Ended → Bool
+goesOn Pending = true
+goesOn (Queried who) = true
+goesOn (At time pair who) = false
+
+-- an answer completes nothing, or it is to such an ack
 record Ends (n : ℕ) (r : Replica) (m : Message) (body : Body) : Type 0 where
   pub ack : body ≡ Ack
   pub present : m .rid .0 ≡ r .rid .0
@@ -64,7 +70,7 @@ record Ends (n : ℕ) (r : Replica) (m : Message) (body : Body) : Type 0 where
   pub majority : isMajority n r (m .from) ≡ true
 
 ends-or-not : {n register : ℕ} {r : Replica} {m : Message} {body : Body} {answer : Answer} → Answers n register r m body answer
-    → (answer .ended ≡ Pending) ⊎ Ends n r m body
+    → (goesOn (answer .ended) ≡ true) ⊎ Ends n r m body
 unfolding queryRule updateRule
 ends-or-not (replies y) = inl refl
 ends-or-not (stores y pair) = inl refl
@@ -74,10 +80,25 @@ ends-or-not (chooses pair row gathered f present many) = inl refl
 ends-or-not (waits row sent f present few) = inl refl
 ends-or-not (ends row sent f present many) = inr (record { ack = refl; present = present; row = row; sent = sent; phase = f; majority = many })
 
--- a row changes only where an operation ends
+-- a row changes only where a phase ends
 unended : (rows : List Row) (number : ℕ) (ended : Ended) (j : ℕ) → j ≢ number - 1 → getD (answeredRows rows number ended) j emptyRow ≡ getD rows j emptyRow
 unended rows number Pending j n = refl
-unended rows number (At time pair) j n = getD-set-other rows (number - 1) j (completed (getD rows (number - 1) emptyRow) time pair) emptyRow n
+unended rows number (Queried who) j n = getD-set-other rows (number - 1) j (queriedRow (getD rows (number - 1) emptyRow) who) emptyRow n
+unended rows number (At time pair who) j n =
+    getD-set-other rows (number - 1) j (completed (getD rows (number - 1) emptyRow) time pair who) emptyRow n
+
+-- and its response time only where an operation completes
+unanswered : (rows : List Row) (number : ℕ) (ended : Ended) (j : ℕ) → j < length rows → goesOn ended ≡ true
+    → getD (answeredRows rows number ended) j emptyRow .answered .0 ≡ getD rows j emptyRow .answered .0
+unanswered rows number Pending j l e = refl
+unanswered rows number (Queried who) j l e =
+    elim (ℕ-discrete j (number - 1)) [
+      | yes f ↦
+          ap (λ i. getD (set rows i (queriedRow (getD rows i emptyRow) who)) j emptyRow .answered .0) (sym f)
+          ∙ ap (λ (r : Row). r .answered .0) (getD-set-same rows j (queriedRow (getD rows j emptyRow) who) emptyRow l)
+      | no n ↦ ap (λ (r : Row). r .answered .0) (unended rows number (Queried who) j n)
+    ]
+unanswered rows number (At time pair who) j l e = absurd (false≢true e)
 
 module _ (s : State) (w : Well s) (row : ℕ) (old : Within row (length (s .rows))) (pending : rowOf s row .answered .0 ≡ 0) where
   delivery-completes : (k i : ℕ) → i < length (s .flight) → seek k 0 (s .flight) ≡ Place i
@@ -90,8 +111,9 @@ module _ (s : State) (w : Well s) (row : ℕ) (old : Within row (length (s .rows
       r : Replica
       r = recipientAt s i
 
-      go : (plain s r m .ended ≡ Pending) ⊎ Ends (s .n) r m (m .body) → Completes s (Deliver k) row
-      go (inl e) = absurd (new (ap (λ (x : Ended). getD (answeredRows (s .rows) (pointed (r .phase)) x) (row - 1) emptyRow .answered .0) e ∙ pending))
+      go : (goesOn (plain s r m .ended) ≡ true) ⊎ Ends (s .n) r m (m .body) → Completes s (Deliver k) row
+      go (inl e) =
+          absurd (new (unanswered (s .rows) (pointed (r .phase)) (plain s r m .ended) (row - 1) (omega (arith, old .least, old .most)) e ∙ pending))
       go (inr c) =
           record {
             number = k;

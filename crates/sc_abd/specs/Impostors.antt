@@ -7,7 +7,7 @@ use native.Mathlib.Omega.{arith}
 use lib.Count.{ones}
 use lib.Dec.{eqb}
 use lib.IntN.{pos}
-use lib.ListN.{getD}
+use lib.ListN.{length, getD}
 use Rattle.words.specs.Ranges.{within}
 use Rattle.words.specs.Stamps.{startStamp, below, newer}
 use Rattle.words.specs.Quorum.{member, joined}
@@ -134,6 +134,7 @@ zeroed ReadKind (suc t) r =
       answered = r .answered;
       stamp = r .stamp;
       value = pos 0;
+      replied = r .replied;
     }
 zeroed WriteKind t r = r
 
@@ -158,6 +159,7 @@ forged =
       answered = r .answered;
       stamp = r .stamp;
       value = r .value;
+      replied = r .replied;
     })
 
 pub forged-fails : Demand2 forged → ⊥
@@ -181,6 +183,7 @@ answersAtOne =
       answered = record { 0 = oneIfAnswered (r .answered .0) };
       stamp = r .stamp;
       value = r .value;
+      replied = r .replied;
     })
 
 pub answersAtOne-fails : Demand2 answersAtOne → ⊥
@@ -200,6 +203,7 @@ unstamped =
       answered = r .answered;
       stamp = startStamp;
       value = r .value;
+      replied = r .replied;
     })
 
 pub unstamped-fails : Demand2 unstamped → ⊥
@@ -207,6 +211,46 @@ unfolding unstamped step stepWrite beginRefusal downRefusal writeRule writeRefus
 unstamped-fails d =
     let time : _≡_ {A = ℕ} 0 1 = ap (λ h. first h .tsv .ts .time) (from-fresh unstamped d 1 refl writes refl .history) in
     omega arith
+
+-- who decided is left out of the update set: of process 1, alone, which acks its own write, nobody is left in it
+pub leavesOut : State → Event → Outcome
+leavesOut =
+    honestBut (λ r. record {
+      process = r .process;
+      kind = r .kind;
+      register = r .register;
+      invoked = r .invoked;
+      answered = r .answered;
+      stamp = r .stamp;
+      value = r .value;
+      replied = record { query = r .replied .query; update = 0 };
+    })
+
+pub leavesOut-fails : Demand2 leavesOut → ⊥
+unfolding leavesOut step stepWrite stepDeliver ones below newer member joined beginRefusal downRefusal writeRule writeRefusal writeBegun updateRule updateRefusal updateReceived ackCounted ackRule ackRefusal ackReceived
+leavesOut-fails d =
+    let acked : _≡_ {A = List ℕ} [] (1 ∷ []) = ap (λ h. first h .acked) (from-fresh leavesOut d 1 refl writeAlone refl .history) in
+    omega (arith, ap length acked)
+
+-- bit 0, which is no process, is in every query set: a write has none
+pub addsNobody : State → Event → Outcome
+addsNobody =
+    honestBut (λ r. record {
+      process = r .process;
+      kind = r .kind;
+      register = r .register;
+      invoked = r .invoked;
+      answered = r .answered;
+      stamp = r .stamp;
+      value = r .value;
+      replied = record { query = 1; update = r .replied .update };
+    })
+
+pub addsNobody-fails : Demand2 addsNobody → ⊥
+unfolding addsNobody step stepWrite beginRefusal downRefusal writeRule writeRefusal writeBegun
+addsNobody-fails d =
+    let queried : _≡_ {A = List ℕ} (0 ∷ []) [] = ap (λ h. first h .queried) (from-fresh addsNobody d 1 refl writes refl .history) in
+    omega (arith, ap length queried)
 
 -- ---- honest, but it says of every accepted event that it was the last of the 12,000: then it need accept no other
 

@@ -4,6 +4,7 @@ pub mod System
 pub mod Same
 pub mod Demand2
 pub mod Executions
+pub mod Named
 -- What is proved
 pub mod Theorem
 pub mod Corollaries
@@ -14,6 +15,7 @@ pub mod Uncounted
 pub mod Numbering
 pub mod Packets
 pub mod AsMany
+pub mod ProcessesLaws
 pub mod Histories
 pub mod Idle
 pub mod Answers
@@ -35,6 +37,9 @@ pub mod Replied
 pub mod RepliedKept
 pub mod QueriedKept
 pub mod Completion
+pub mod NamedKept
+pub mod NamedMoves
+pub mod NamedLaws
 -- Runs of any bench
 pub mod Along
 pub mod ExecutionsLaws

@@ -139,7 +139,7 @@ module _ (s : State) (w : Well s) (run : List Moment) (filled : AllFilled s run)
 
   module _ (e : Event) (z : step s e .refusal ≡ 0) where
     kinds-stay : (t : State) → step s e .state ≡ t → KindsStay s (t .rows)
-    kinds-stay t is row l = ap (λ (t : State). rowOf t row .kind) (sym is) ∙ row-stays (λ r. r .kind) (λ r time pair. refl) s e z row l
+    kinds-stay t is row l = ap (λ (t : State). rowOf t row .kind) (sym is) ∙ row-stays (λ r. r .kind) (λ r who. refl) (λ r time pair who. refl) s e z row l
 
     moves : (p : ℕ) → Within p (s .n) → (answer : Answer) (flight : List Message) (delivered : ℕ) (rows : List Row)
         → step s e .state ≡ moved s p answer flight delivered rows → (KindsStay s rows → QueriedFor e rows p (answer .replica))

@@ -122,11 +122,11 @@ module _ (s : State) (w : Well s) (run : List Moment) (filled : AllFilled s run)
         joins (ap isReply e) present (ap stageFor e ∙ ap stageOf (sym f))
         (asking (replicaOf s p) (messageAt s i .from) (messageAt s i .time) row (gatheredWith gathered pair) .replica) refl refl (ap stageOf (sym f))
     taken-filled {register} (chooses pair row gathered f present many) e =
-        none-filled p (chosen (replicaOf s p) register (messageAt s i .time) row (gatheredWith gathered pair .best) .replica) _ refl
+        none-filled p (chosen (replicaOf s p) register (messageAt s i .from) (messageAt s i .time) row (gatheredWith gathered pair .best) .replica) _ refl
     taken-filled (waits row sent f present few) e =
         joins (ap isReply e) present (ap stageFor e ∙ ap stageOf (sym f))
         (waiting (replicaOf s p) (messageAt s i .from) (messageAt s i .time) row sent .replica) refl refl (ap stageOf (sym f))
-    taken-filled (ends row sent f present many) e = none-filled p (ended (replicaOf s p) (messageAt s i .time) sent .replica) _ refl
+    taken-filled (ends row sent f present many) e = none-filled p (ended (replicaOf s p) (messageAt s i .from) (messageAt s i .time) sent .replica) _ refl
 
   event-filled : (e : Event) → step s e .refusal ≡ 0 → AllFilled (step s e .state) (longer s e run)
   unfolding step readRule writeRule crashRule

@@ -12,7 +12,8 @@ use borrow.Author.Tests.{eq-eqb, ne-eqb, eqb-false, le-leb, lt-leb}
 use Rattle.words.specs.Quorum.{member, joined, counted, majorityOf}
 use Rattle.words.specs.QuorumLaws.{joined-has, joined-counted-new, counted-empty}
 use Rattle.sc_abd.specs.Algorithm1.{Tsv, Reply, sameTsv, sameReply, isIn, join, maxTsv, maxFrom, maxOf, majority}
-use Rattle.sc_abd.specs.Same.{replier, hasReplied, SameReplies}
+use Rattle.sc_abd.specs.System.{replier, hasReplied}
+use Rattle.sc_abd.specs.Same.{SameReplies}
 use Rattle.moves.specs.OfLaws.{joined-other, member-empty}
 
 pub none-replied : SameReplies 0 []

@@ -1,7 +1,7 @@
 -- When a bench's state and a system that runs Algorithm 1 are the same: one fixed definition, process by process, message by message, row by row.
-use Prim.Native.Nat.{ℕ, zero, suc, _≤_}
+use Prim.Native.Nat.{ℕ, zero, suc, _/_, _%_, _^_, _≤_}
 use mathlib.Core.Path.{_≡_}
-use mathlib.Core.Bool.{Bool, true, false, _||_}
+use mathlib.Core.Bool.{Bool, true, false}
 use mathlib.Core.List.{List, [], _∷_, map}
 use lib.Dec.{eqb}
 use lib.ListN.{length}
@@ -20,7 +20,7 @@ use Rattle.tables.specs.declared.Row.{Row}
 use Rattle.state.specs.State.{State, replicaOf, rowOf}
 use Rattle.state.specs.WellFormed.{pendingOf}
 use Rattle.sc_abd.specs.Algorithm1.{Tsv, Content, Packet, Process, Reply, Return, maxOf}
-use Rattle.sc_abd.specs.System.{Call, Operation, System}
+use Rattle.sc_abd.specs.System.{Call, Operation, System, hasReplied, those}
 
 abbrev pub tsvOf : Pair → Tsv
 tsvOf p = record { ts = record { time = p .stamp .time .0; process = p .stamp .process .0 }; value = p .value }
@@ -55,6 +55,13 @@ returnedOf (suc t) r = resultOf (r .kind) r
 abbrev pub tsvIn : Row → Tsv
 tsvIn r = tsvOf (record { stamp = r .stamp; value = r .value })
 
+-- the processes in a set: the places of the ones of its number, which has none at its own place or above
+abbrev pub inSet : ℕ → ℕ → Bool
+inSet set j = eqb (set / 2 ^ j % 2) 1
+
+abbrev pub processesIn : ℕ → List ℕ
+processesIn set = those (inSet set) 0 set
+
 -- (`operation-once`: no other row is the same operation)
 abbrev pub operationOf : Row → Operation
 operationOf r =
@@ -65,17 +72,11 @@ operationOf r =
       answered = r .answered .0;
       tsv = tsvIn r;
       returned = returnedOf (r .answered .0) r;
+      queried = processesIn (r .replied .query);
+      acked = processesIn (r .replied .update);
     }
 
 -- ---- the counted repliers are the processes in `responses`
-
-abbrev pub replier : Reply → ℕ
-replier (Reply.pair tsv j) = j
-replier (Reply.only j) = j
-
-abbrev pub hasReplied : ℕ → List Reply → Bool
-hasReplied j [] = false
-hasReplied j (a ∷ rest) = eqb (replier a) j || hasReplied j rest
 
 pub record SameReplies (repliers : ℕ) (responses : List Reply) : Type 0 where
   pub each : (j : ℕ) → j ≤ 7 → member repliers j ≡ hasReplied j responses

@@ -34,17 +34,17 @@ use Rattle.state.specs.PairLaws.{Within}
 use Rattle.state.specs.PendingLaws.{waits, waits-other, pending-within, pending-process, pending-same, pending-done}
 use Rattle.state.specs.WellLaws.{Well}
 use Rattle.sc_abd.specs.Algorithm1.{Process, Reply, Return, Done, join, majority, unhandled, ackCounted as paperCounted, onAck}
-use Rattle.sc_abd.specs.System.{System, isOpen, without, returning, historyAfter}
+use Rattle.sc_abd.specs.System.{System, isOpen, without, changing, returnedBy, repliersOf, historyAfter}
 use Rattle.sc_abd.specs.Same.{tsvOf, operationOf, pointedRows, isRead, SameUpdate, SamePhase, SameProcess, Same}
-use Rattle.sc_abd.specs.Answers.{isMajority, ended, waiting, ack-answers}
-use Rattle.sc_abd.specs.Histories.{doneOf, completed-operation, returning-row}
+use Rattle.sc_abd.specs.Answers.{withSender, isMajority, ended, waiting, ack-answers}
+use Rattle.sc_abd.specs.Histories.{doneOf, completed-operation, changing-row}
 use Rattle.sc_abd.specs.Repliers.{none-replied, joins, one-more, majority-test}
 use Rattle.moves.specs.RequestNumbers.{Numbered}
 use Rattle.moves.specs.Stages.{Stage, stageOf, stageFor}
 use Rattle.moves.specs.PresentLaws.{not-counted, present-stage}
 use Rattle.sc_abd.specs.SameMove.{RowsKept, same-moved}
-use Rattle.sc_abd.specs.SameRequest.{system, own, left, same-received, clock-after}
-use Rattle.sc_abd.specs.SameResponse.{nextBy, same-discarded, sender-small}
+use Rattle.sc_abd.specs.SameRequest.{system, history-returns, own, left, same-received, clock-after}
+use Rattle.sc_abd.specs.SameResponse.{nextBy, same-discarded, sender-small, set-had}
 
 idle-not-updating : Stage.idle ≡ Stage.updating → ⊥
 idle-not-updating e = let z : _≡_ {A = ℕ} 0 1 = cc in omega arith
@@ -65,7 +65,7 @@ module _ (r : Replica) (n : ℕ) (m : Message) where
       go (Updating row sent) = rw (ne-eqb (m .rid .0) (r .rid .0) f) refl
 
   pub ack-for : (row : ℕ) (sent : Pair) → r .phase ≡ Updating row sent → m .rid .0 ≡ r .rid .0
-      → ackRule r n (m .from) (m .time) (m .rid) ≡ cond (isMajority n r (m .from)) (ended r (m .time) sent) (waiting r (m .from) (m .time) row sent)
+      → ackRule r n (m .from) (m .time) (m .rid) ≡ cond (isMajority n r (m .from)) (ended r (m .from) (m .time) sent) (waiting r (m .from) (m .time) row sent)
   unfolding ackRule
   ack-for row sent f e =
       ap (λ phase. ackTaken (ackCounts phase (r .rid) (m .rid)) r n (m .from) (m .time)) f
@@ -82,9 +82,9 @@ paper-for n q j lt rid responses e f = rw (eq-eqb (q .rid) rid e, f) refl
 -- ---- the row that completes
 
 -- the operations of the others are as they were
-completed-kept : (s : State) (p row : ℕ) → pendingOf p 1 (s .rows) ≡ row ∷ [] → (time : Time) (pair : Pair)
-    → (q : ℕ) → (q ≡ p → ⊥) → RowsKept s (set (s .rows) (row - 1) (completed (rowOf s row) time pair)) q
-completed-kept s p row e time pair q n =
+completed-kept : (s : State) (p row : ℕ) → pendingOf p 1 (s .rows) ≡ row ∷ [] → (time : Time) (pair : Pair) (who : ℕ)
+    → (q : ℕ) → (q ≡ p → ⊥) → RowsKept s (set (s .rows) (row - 1) (completed (rowOf s row) time pair who)) q
+completed-kept s p row e time pair who q n =
     record {
       pending = pending-same q 1 (s .rows) (row - 1) new (waits-other p q new owner n ∙ sym (waits-other p q (rowOf s row) owner n));
       row = λ other f.
@@ -93,7 +93,7 @@ completed-kept s p row e time pair q n =
     }
   where
     new : Row
-    new = completed (rowOf s row) time pair
+    new = completed (rowOf s row) time pair who
 
     owner : rowOf s row .process .0 ≡ p
     owner = pending-process p row (s .rows) e
@@ -120,8 +120,12 @@ closed false rval = refl
 
 module _ (s : State) (w : Well s) (n : Numbered s) (a : System) (same : Same s a) (i : ℕ) (l : i < length (s .flight)) (p : ℕ) (actor : Within p (s .n))
     (to : messageAt s i .to .0 ≡ p) (is : messageAt s i .body ≡ Ack) where
+  -- those who have replied with this one
+  abbrev had : List ℕ
+  had = repliersOf (s .n) (join (a .processes p .responses) (Reply.only (messageAt s i .from .0)))
+
   abbrev Meets : Answer → Done → Type 0
-  Meets answer done = Same (nextBy s i p answer) (system a i p done)
+  Meets answer done = Same (nextBy s i p answer) (system a i p had done)
 
   abbrev ours : Answer
   ours = ackRule (replicaOf s p) (s .n) (messageAt s i .from) (messageAt s i .time) (messageAt s i .rid)
@@ -193,17 +197,19 @@ module _ (s : State) (w : Well s) (n : Numbered s) (a : System) (same : Same s a
           }
 
       row-done : Row
-      row-done = completed (rowOf s row) time sent
+      row-done = completed (rowOf s row) time sent (withSender r (m .from))
 
-      told : map operationOf (set (s .rows) (row - 1) row-done) ≡ historyAfter p final (a .history)
+      told : map operationOf (set (s .rows) (row - 1) row-done) ≡ historyAfter p (a .asking p) had final (a .history)
       told =
           let h = pending-within p row (s .rows) only in
           let place : row ≡ 1 + (row - 1) = omega (arith, h .least) in
-          returning-row p final row-done 1 (row - 1) (s .rows) [] (only ∙ ap (λ k. k ∷ []) place)
-          (completed-operation (rowOf s row) time sent final (omega arith) clock (kept-sent (rowOf s row) sent q (a .asking p) phase)
-          (returned (rowOf s row .kind) sent (q .reading) (q .rval) (phase .reading) (phase .gives)))
-          ∙ ap (returning p final) (same .history)
-          ∙ sym (ap (λ x. cond x (a .history) (returning p final (a .history))) (closed (q .reading) (q .rval)))
+          changing-row p (returnedBy had final) row-done 1 (row - 1) (s .rows) [] (only ∙ ap (λ k. k ∷ []) place)
+          (completed-operation (rowOf s row) time sent (withSender r (m .from)) had final (omega arith) clock
+          (kept-sent (rowOf s row) sent q (a .asking p) phase)
+          (returned (rowOf s row .kind) sent (q .reading) (q .rval) (phase .reading) (phase .gives))
+          (set-had s w n a same i l p actor to reply refl new))
+          ∙ ap (changing p (returnedBy had final)) (same .history)
+          ∙ sym (history-returns p (a .asking p) had final (a .history) (closed (q .reading) (q .rval)))
 
       over : waits p row-done ≡ false
       over = ap (λ b. eqb (row-done .process .0) p && b) (ne-eqb (time .0) 0 (λ e. omega arith)) ∙ and-false (eqb (row-done .process .0) p)
@@ -212,12 +218,12 @@ module _ (s : State) (w : Well s) (n : Numbered s) (a : System) (same : Same s a
       row-over = pending-done p 1 (s .rows) (row - 1) row row-done (omega (arith, pending-within p row (s .rows) only .least)) only over
 
       go : (b : Bool) → isMajority (s .n) r (m .from) ≡ b
-          → Meets (cond b (ended r (m .time) sent) (waiting r (m .from) (m .time) row sent)) (paperCounted (s .n) q (max (q .lt) (m .time .0) + 1) after)
+          → Meets (cond b (ended r (m .from) (m .time) sent) (waiting r (m .from) (m .time) row sent)) (paperCounted (s .n) q (max (q .lt) (m .time .0) + 1) after)
       go true h =
           rw (test ∙ h) (rw (ap pointed f)
-          (same-moved s w a same p actor (ended r (m .time) sent) (removed i (s .flight)) (s .delivered + 1)
-          (set (s .rows) (row - 1) row-done) final (without i (a .transit)) (a .history) refl
-          (completed-kept s p row only time sent)
+          (same-moved s w a same p actor (ended r (m .from) (m .time) sent) (removed i (s .flight)) (s .delivered + 1)
+          (set (s .rows) (row - 1) row-done) final (without i (a .transit)) (historyAfter p (a .asking p) had final (a .history)) refl
+          (completed-kept s p row only time sent (withSender r (m .from)))
           (record { clock = clock; number = ap (λ t. t + 1) (mine .number); store = mine .store; replies = none-replied; waits = row-over; phase = refl })
           (left s w a same i p actor) refl told))
       go false h =
@@ -238,7 +244,7 @@ module _ (s : State) (w : Well s) (n : Numbered s) (a : System) (same : Same s a
                   written = phase .written;
                 };
           })
-          refl refl)
+          refl refl refl had)
 
   pub same-ack : Meets ours theirs
   same-ack =
@@ -248,7 +254,7 @@ module _ (s : State) (w : Well s) (n : Numbered s) (a : System) (same : Same s a
             subst₂ Meets (sym (ack-not (replicaOf s p) (s .n) (messageAt s i) f))
             (sym (paper-not (s .n) (a .processes p) (messageAt s i .from .0) (messageAt s i .time .0) (messageAt s i .rid .0)
             (λ e. f (sym (own s w a same i p actor .number ∙ e)))))
-            (same-discarded s w n a same i l p actor to)
+            (same-discarded s w n a same i l p actor to had)
       ]
     where
       stage : messageAt s i .rid .0 ≡ replicaOf s p .rid .0 → stageOf (replicaOf s p .phase) ≡ Stage.updating

@@ -98,7 +98,17 @@ module _ (s : State) (w : Well s) (a : System) (same : Same s a) (p x : ℕ) (i 
       row = readRow p x (replicaOf s p .clock .0 + 1)
 
       reads : ℕ → Operation
-      reads t = record { process = p; call = Call.READ x; invoked = t + 1; answered = 0; tsv = initial; returned = Return.none }
+      reads t =
+          record {
+            process = p;
+            call = Call.READ x;
+            invoked = t + 1;
+            answered = 0;
+            tsv = initial;
+            returned = Return.none;
+            queried = [];
+            acked = [];
+          }
 
   pub same-write : (value : ℤ) → Same (writeNext s p x value) (taken a (Action.invoke p (Call.WRITE x value)))
   unfolding writeRule
@@ -136,4 +146,14 @@ module _ (s : State) (w : Well s) (a : System) (same : Same s a) (p x : ℕ) (i 
       written t = record { ts = record { time = t + 1; process = p }; value = value }
 
       writes : ℕ → Operation
-      writes t = record { process = p; call = Call.WRITE x value; invoked = t + 1; answered = 0; tsv = written t; returned = Return.none }
+      writes t =
+          record {
+            process = p;
+            call = Call.WRITE x value;
+            invoked = t + 1;
+            answered = 0;
+            tsv = written t;
+            returned = Return.none;
+            queried = [];
+            acked = [];
+          }

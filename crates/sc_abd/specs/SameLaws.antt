@@ -6,6 +6,7 @@ use mathlib.Core.List.{List, [], _∷_, _++_, map}
 use native.Mathlib.Omega.{arith}
 use lib.Dec.{eqb}
 use lib.IntN.{ℤ}
+use lib.ListN.{length, getD, drop}
 use borrow.Author.Tests.{eq-eqb}
 use Rattle.words.specs.declared.Pair.{Pair}
 use Rattle.replica.specs.declared.Phase.{Phase}
@@ -14,6 +15,7 @@ use Rattle.replica.specs.Gathering.{gatheredFrom}
 use Rattle.replica.specs.Handlers.{isIdle}
 use Rattle.tables.specs.declared.Kind.{Kind}
 use Rattle.tables.specs.declared.Kind.the-variants.{Read, Write}
+use Rattle.tables.specs.declared.Replied.{Replied}
 use Rattle.tables.specs.declared.Row.{Row}
 use Rattle.state.specs.State.{State, replicaOf}
 use Rattle.state.specs.EveryLaws.{both}
@@ -24,6 +26,7 @@ use Rattle.sc_abd.specs.Same.{tsvOf, operationOf, pointedRows, SamePhase
 use Rattle.sc_abd.specs.Demand2.{registerOf}
 use Rattle.sc_abd.specs.Histories.{outstanding-pending}
 use Rattle.sc_abd.specs.Packets.{asks-all}
+use Rattle.sc_abd.specs.ProcessesLaws.{processes-once}
 use Rattle.moves.specs.Stages.{Stage, stageOf}
 
 -- ---- a row is told by its operation
@@ -38,8 +41,9 @@ abbrev kindOf : Call → Kind
 kindOf (Call.READ r) = Read
 kindOf (Call.WRITE r v) = Write
 
-abbrev rowFrom : Operation → Row
-rowFrom o =
+-- but for the sets
+abbrev rowFrom : Operation → Replied → Row
+rowFrom o replied =
     record {
       process = record { 0 = o .process };
       kind = kindOf (o .call);
@@ -48,31 +52,52 @@ rowFrom o =
       answered = record { 0 = o .answered };
       stamp = pairFrom (o .tsv) .stamp;
       value = o .tsv .value;
+      replied = replied;
     }
 
-row-back : (r : Row) → rowFrom (operationOf r) ≡ r
+row-back : (r : Row) → rowFrom (operationOf r) (r .replied) ≡ r
 row-back r = go (r .kind)
   where
     told : Kind → Row
     told k =
-        record { process = r .process; kind = k; register = r .register; invoked = r .invoked; answered = r .answered; stamp = r .stamp; value = r .value }
+        record {
+          process = r .process;
+          kind = k;
+          register = r .register;
+          invoked = r .invoked;
+          answered = r .answered;
+          stamp = r .stamp;
+          value = r .value;
+          replied = r .replied;
+        }
 
-    go : (k : Kind) → rowFrom (operationOf (told k)) ≡ told k
+    go : (k : Kind) → rowFrom (operationOf (told k)) (r .replied) ≡ told k
     go Read = refl
     go Write = refl
 
-pub operation-once : (r t : Row) → operationOf r ≡ operationOf t → r ≡ t
-operation-once r t e = sym (row-back r) ∙ ap rowFrom e ∙ row-back t
+-- a list of processes tells its set
+sets-once : (r t : Row) → operationOf r ≡ operationOf t → r .replied ≡ t .replied
+sets-once r t e =
+    ap₂ (λ (q u : ℕ). record { query = q; update = u })
+    (processes-once (r .replied .query) (t .replied .query) (ap (λ (o : Operation). o .queried) e))
+    (processes-once (r .replied .update) (t .replied .update) (ap (λ (o : Operation). o .acked) e))
 
-rows-back : (rows : List Row) → map rowFrom (map operationOf rows) ≡ rows
-rows-back [] = refl
-rows-back (r ∷ rows) = ap₂ (λ x y. x ∷ y) (row-back r) (rows-back rows)
+pub operation-once : (r t : Row) → operationOf r ≡ operationOf t → r ≡ t
+operation-once r t e = sym (row-back r) ∙ ap₂ rowFrom e (sets-once r t e) ∙ row-back t
+
+history-once : (rows others : List Row) → map operationOf rows ≡ map operationOf others → rows ≡ others
+history-once [] [] e = refl
+history-once [] (t ∷ others) e = absurd (omega (arith, ap length e))
+history-once (r ∷ rows) [] e = absurd (omega (arith, ap length e))
+history-once (r ∷ rows) (t ∷ others) e =
+    ap₂ (λ x y. x ∷ y) (operation-once r t (ap (λ (l : List Operation). getD l 0 (operationOf r)) e))
+    (history-once rows others (ap (λ (l : List Operation). drop 1 l) e))
 
 -- ---- two states that are the same as one system
 
 module _ (s t : State) (a : System) (one : Same s a) (other : Same t a) where
   pub rows-once : s .rows ≡ t .rows
-  rows-once = sym (rows-back (s .rows)) ∙ ap (map rowFrom) (one .history ∙ sym (other .history)) ∙ rows-back (t .rows)
+  rows-once = history-once (s .rows) (t .rows) (one .history ∙ sym (other .history))
 
   module _ (p : ℕ) (least : 1 ≤ p) (here : p ≤ s .n) (there : p ≤ t .n) where
     alike : (x y : Phase) → pointedRows x ≡ pointedRows y → SamePhase s x (a .processes p) (a .asking p) → SamePhase t y (a .processes p) (a .asking p)

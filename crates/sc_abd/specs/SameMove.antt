@@ -21,7 +21,7 @@ use Rattle.state.specs.WellFormed.{pendingOf}
 use Rattle.state.specs.WellLaws.{Well}
 use Rattle.sc_abd.specs.Algorithm1.{Packet, Process, Done}
 use Rattle.moves.specs.Places.{own-after, other-after}
-use Rattle.sc_abd.specs.System.{Operation, System, historyAfter, asksAfter, doing}
+use Rattle.sc_abd.specs.System.{Operation, System, asksAfter, doing}
 use Rattle.sc_abd.specs.Same.{packetOf, operationOf, pointedRows, SameQuery, SameUpdate, SamePhase, SameProcess, Same}
 
 -- the operation that q has outstanding, if any, is the same in other rows
@@ -56,7 +56,7 @@ module _ (s : State) (w : Well s) (a : System) (same : Same s a) (p : ℕ) (acto
   pub same-moved : answer .replica .crashed ≡ replicaOf s p .crashed → ((q : ℕ) → (q ≡ p → ⊥) → RowsKept s rows q)
       → SameProcess (moved s p answer flight delivered rows) p (answer .replica) (done .process) (asksAfter (a .asking p) (done .sends))
       → map packetOf flight ≡ transit → map packetOf (posted s p (answer .sends)) ≡ done .sends
-      → map operationOf rows ≡ historyAfter p done history
+      → map operationOf rows ≡ history
       → Same (moved s p answer flight delivered rows) (doing a p done transit history)
   same-moved up k own left sent told =
       record {

@@ -1,5 +1,6 @@
--- The system that runs Algorithm 1: processes 1 to n, reliable links, crash-stop, and the history of the calls with their times, their pairs and what
--- was RETURNed. A step is one handler at one live process, a crash, or the loss of a message of a dead process (a crash in the middle of a broadcast).
+-- The system that runs Algorithm 1: processes 1 to n, reliable links, crash-stop, and the history of the calls with their times, their pairs, what
+-- was RETURNed, and whose replies they had when they went on. A step is one handler at one live process, a crash, or the loss of a message of a dead
+-- process (a crash in the middle of a broadcast).
 use Prim.Native.Nat.{ℕ, zero, suc, _≤_, _<_}
 use mathlib.Core.Path.{_≡_}
 use mathlib.Core.Bool.{Bool, true, false, cond, not, _&&_, _||_}
@@ -7,7 +8,7 @@ use mathlib.Core.List.{List, [], _∷_, _++_}
 use lib.Dec.{eqb}
 use lib.IntN.{ℤ}
 use lib.ListN.{length, getD}
-use Rattle.sc_abd.specs.Algorithm1.{Tsv, Process, Packet, Content, Return, Done, initial, atFirst, onRead, onWrite, onReceipt}
+use Rattle.sc_abd.specs.Algorithm1.{Tsv, Process, Packet, Content, Reply, Return, Done, initial, atFirst, join, onRead, onWrite, onReceipt}
 
 pub data Call : Type 0 where
   READ : (r : ℕ) → Call
@@ -24,6 +25,9 @@ pub record Operation : Type 0 where
   pub tsv : Tsv
   -- what it was RETURNed, if anything
   pub returned : Return
+  -- the processes, in rising number, whose replies it had when it went on from line 10, and when it went on from line 26; none before
+  pub queried : List ℕ
+  pub acked : List ℕ
 
 pub record System : Type 0 where
   pub n : ℕ
@@ -47,9 +51,14 @@ abbrev pub outstanding : ℕ → List Operation → Bool
 outstanding i [] = false
 outstanding i (o ∷ rest) = (eqb (o .process) i && isOpen (o .returned)) || outstanding i rest
 
--- an operation that is RETURNed what its process's handler says, at the lt and with the tsv that the process then has
-abbrev pub returnedBy : Done → Operation → Operation
-returnedBy done o =
+-- the outstanding operation of p_i, changed
+abbrev pub changing : ℕ → (Operation → Operation) → List Operation → List Operation
+changing i change [] = []
+changing i change (o ∷ rest) = cond (eqb (o .process) i && isOpen (o .returned)) (change o ∷ rest) (o ∷ changing i change rest)
+
+-- an operation that is RETURNed what its process's handler says, at the lt and with the tsv that the process then has; these have acked
+abbrev pub returnedBy : List ℕ → Done → Operation → Operation
+returnedBy had done o =
     record {
       process = o .process;
       call = o .call;
@@ -57,17 +66,23 @@ returnedBy done o =
       answered = done .process .lt;
       tsv = done .process .tsv;
       returned = done .return;
+      queried = o .queried;
+      acked = had;
     }
 
--- the outstanding operation of p_i is RETURNed
-abbrev pub returning : ℕ → Done → List Operation → List Operation
-returning i done [] = []
-returning i done (o ∷ rest) =
-    cond (eqb (o .process) i && isOpen (o .returned)) (returnedBy done o ∷ rest) (o ∷ returning i done rest)
-
--- .. if the handler RETURNs anything
-abbrev pub historyAfter : ℕ → Done → List Operation → List Operation
-historyAfter i done history = cond (isOpen (done .return)) history (returning i done history)
+-- an operation that goes on from its query to its update; these have responded
+abbrev pub goneOn : List ℕ → Operation → Operation
+goneOn had o =
+    record {
+      process = o .process;
+      call = o .call;
+      invoked = o .invoked;
+      answered = o .answered;
+      tsv = o .tsv;
+      returned = o .returned;
+      queried = had;
+      acked = o .acked;
+    }
 
 abbrev pub asksFor : Bool → Content → Bool
 asksFor before (Content.query lt rid r) = true
@@ -85,7 +100,47 @@ without i [] = []
 without zero (a ∷ rest) = rest
 without (suc i) (a ∷ rest) = a ∷ without i rest
 
--- p_i does what its handler says
+-- ---- whose replies a process has
+
+abbrev pub replier : Reply → ℕ
+replier (Reply.pair tsv j) = j
+replier (Reply.only j) = j
+
+abbrev pub hasReplied : ℕ → List Reply → Bool
+hasReplied j [] = false
+hasReplied j (a ∷ rest) = eqb (replier a) j || hasReplied j rest
+
+-- the numbers that pass a test, in rising order: from j on, as many as are left
+abbrev pub those : (ℕ → Bool) → ℕ → ℕ → List ℕ
+those test j zero = []
+those test j (suc left) = cond (test j) (j ∷ those test (suc j) left) (those test (suc j) left)
+
+-- the processes 1 to n that are in `responses`
+abbrev pub repliersOf : ℕ → List Reply → List ℕ
+repliersOf n responses = those (λ j. hasReplied j responses) 1 n
+
+-- `responses` with this message of p_j, as lines 10 and 26 find it
+abbrev pub joinedBy : List Reply → ℕ → Content → List Reply
+joinedBy responses j (Content.query lt rid r) = responses
+joinedBy responses j (Content.response lt rid tsv) = join responses (Reply.pair tsv j)  -- 9
+joinedBy responses j (Content.update lt rid r tsv) = responses
+joinedBy responses j (Content.ack lt rid) = join responses (Reply.only j)  -- 25
+
+-- ---- steps
+
+-- a query was broadcast last, and now an update is (line 15)
+abbrev pub endsQuery : Bool → List Packet → Bool
+endsQuery asking sends = asking && not (asksAfter asking sends)
+
+-- p_i has received a message and does this: its outstanding operation is RETURNed, if the handler RETURNs anything; it goes on to its update, if its
+-- query ends; these have replied to it. (What is invoked RETURNs nothing.)
+abbrev pub historyAfter : ℕ → Bool → List ℕ → Done → List Operation → List Operation
+historyAfter i asking had done history =
+    cond (isOpen (done .return))
+    (cond (endsQuery asking (done .sends)) (changing i (goneOn had) history) history)
+    (changing i (returnedBy had done) history)
+
+-- p_i does what its handler says, and this is the history
 abbrev pub doing : System → ℕ → Done → List Packet → List Operation → System
 doing a i done transit history =
     record {
@@ -94,7 +149,7 @@ doing a i done transit history =
       asking = λ j. cond (eqb j i) (asksAfter (a .asking i) (done .sends)) (a .asking j);
       crashed = a .crashed;
       transit = transit ++ done .sends;
-      history = historyAfter i done history;
+      history = history;
     }
 
 pub data Action : Type 0 where
@@ -133,13 +188,30 @@ writtenBy (WRITE r v) p = p .tsv
 
 -- a call of p_i, which is p once lines 1 to 5 or 16 to 20 are done
 abbrev pub called : ℕ → Call → Process → Operation
-called i call p = record { process = i; call = call; invoked = p .lt; answered = 0; tsv = writtenBy call p; returned = Return.none }
+called i call p =
+    record {
+      process = i;
+      call = call;
+      invoked = p .lt;
+      answered = 0;
+      tsv = writtenBy call p;
+      returned = Return.none;
+      queried = [];
+      acked = [];
+    }
+
+-- the packet at this place was received, and its recipient has done this
+abbrev pub receiving : System → ℕ → Packet → Done → System
+receiving a place m done =
+    let p = a .processes (m .to) in
+    let had = repliersOf (a .n) (joinedBy (p .responses) (m .from) (m .content)) in
+    doing a (m .to) done (without place (a .transit)) (historyAfter (m .to) (a .asking (m .to)) had done (a .history))
 
 abbrev pub taken : System → Action → System
 taken a (invoke i call) =
     let done = handled (a .n) i (a .processes i) call in
     doing a i done (a .transit) (a .history ++ (called i call (done .process) ∷ []))
-taken a (receive place) = doing a (at a place .to) (onArrival a place) (without place (a .transit)) (a .history)
+taken a (receive place) = receiving a place (at a place) (onArrival a place)
 taken a (crash i) =
     record {
       n = a .n;

@@ -1,3 +1,4 @@
 pub mod OfHistory
 pub mod OfEntry
 pub mod Callees
+pub mod Ends

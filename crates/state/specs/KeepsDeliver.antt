@@ -1,47 +1,50 @@
--- An accepted delivery keeps well-formedness: the message is taken off, and either nothing ends or the ack of a majority completes the pending row.
+-- An accepted delivery keeps well-formedness: the message is taken off, and no phase ends, or the response that makes a majority ends the query phase
+-- of the pending row, or the ack that makes one completes it.
 use Prim.Native.Nat.{ℕ, _+_, _-_, _≤_, _<_}
 use mathlib.Core.Path.{_≡_, refl, sym, ap, subst, _∙_}
-use mathlib.Core.Bool.{Bool, true, false, not, cond, _&&_, _||_, and-false}
+use mathlib.Core.Bool.{Bool, true, false, cond, _&&_, _||_, and-false, or-true}
 use mathlib.Core.List.{List, [], _∷_}
 use native.Mathlib.Omega.{arith}
 use lib.Dec.{eqb, leb}
 use lib.ListN.{length, getD, set}
+use lib.Seq.{getD-set-same, getD-set-other}
 use borrow.Author.Tests.{ne-eqb}
 use Rattle.words.specs.declared.Body.{Body}
 use Rattle.words.specs.declared.Body.the-variants.{Query, Response, Update, Ack}
 use Rattle.words.specs.declared.Message.{Message}
 use Rattle.words.specs.declared.Pair.{Pair}
-use Rattle.words.specs.declared.Time.{Time}
 use Rattle.words.specs.Quorum.{joined, counted, majorityOf}
 use Rattle.words.specs.Ranges.{within, pairFits}
-use Rattle.words.specs.RangeLaws.{and-left, and-right}
+use Rattle.words.specs.RangeLaws.{and-left, and-right, inside-fit}
 use Rattle.replica.specs.declared.Answer.{Answer}
+use Rattle.replica.specs.declared.Gathered.{Gathered}
+use Rattle.replica.specs.declared.ResponseCounts.the-variants.{Not, For}
 use Rattle.replica.specs.declared.AckCounts.the-variants.{Not as NoAck, For as AckFor}
-use Rattle.replica.specs.declared.Ended.the-variants.{Pending, At}
+use Rattle.replica.specs.declared.Ended.the-variants.{Pending, Query as Queried, At}
 use Rattle.replica.specs.declared.Phase.{Phase}
 use Rattle.replica.specs.declared.Phase.the-variants.{Idle, Querying, Updating}
 use Rattle.replica.specs.declared.Sends.{Sends}
 use Rattle.replica.specs.declared.Sends.the-variants.{Nothing, Reply, Broadcast}
 use Rattle.replica.specs.Clock.{after}
-use Rattle.replica.specs.Handlers.{accepted, ackCounts, ackCounted, ackTaken, ackRule, became as placed}
+use Rattle.replica.specs.Gathering.{gatheredWith}
+use Rattle.replica.specs.Handlers.{accepted, broadcastOf, discarded, became as placed}
+use Rattle.replica.specs.Handlers.{responseCounts, responseCounted, responseTaken, responseRule, ackCounts, ackCounted, ackTaken, ackRule}
 use Rattle.replica.specs.Numbers.{pointed}
-use Rattle.tables.specs.declared.Kind.{Kind}
-use Rattle.tables.specs.declared.Kind.the-variants.{Read, Write}
 use Rattle.tables.specs.declared.Row.{Row}
 use Rattle.tables.specs.Tables.{emptyRow, removed}
-use Rattle.state.specs.State.{State, replicaOf}
-use Rattle.state.specs.Step.{kept, completed, answeredRows, moved, stepDeliver}
-use Rattle.state.specs.WellFormed.{bodyFits, messageFits, isWrite, rowFits, pendingOf}
+use Rattle.state.specs.State.{State, replicaOf, rowOf}
+use Rattle.state.specs.Step.{completed, queriedRow, answeredRows, moved, askedRegister, stepDeliver}
+use Rattle.state.specs.WellFormed.{bodyFits, messageFits, isWrite, enough, rowFits, pendingOf}
 use Rattle.state.specs.Accepted.{plainBy, messageAt, deliver-accepted}
-use Rattle.state.specs.EveryLaws.{every-removed, every-set, length-removed}
+use Rattle.state.specs.EveryLaws.{both, every-removed, every-set, length-removed}
 use Rattle.state.specs.FlightLaws.{rising-removed}
 use Rattle.state.specs.KeepsMoved.{SendsOk, moved-later, moved-well}
-use Rattle.state.specs.LaterLaws.{Later, kept-rows, body-later, pair-later, rows-later, replica-later}
-use Rattle.state.specs.PairLaws.{Within, within-ok}
-use Rattle.state.specs.PendingLaws.{Waiting, waits, waits-other, pending-first, pending-process, pending-same, pending-done}
-use Rattle.state.specs.Quiet.{ahead, ahead-later, Quiet, received-clock, discarded-quiet, query-quiet, update-quiet, response-quiet, own-emptied, own-joined}
-use Rattle.state.specs.RowsLaws.{answered-stays}
-use Rattle.state.specs.WellLaws.{MessageOk, message-at, RowOk, ok-row, row-at, PhaseOk, Well}
+use Rattle.state.specs.KeepsRow.{queried-ok, completed-ok}
+use Rattle.state.specs.LaterLaws.{Later, kept-rows, body-later, pair-later, row-later, rows-later, replica-later}
+use Rattle.state.specs.PairLaws.{Within, within-ok, ok-within, pair-newer}
+use Rattle.state.specs.PendingLaws.{waits, waits-other, pending-within, pending-process, pending-same, pending-done}
+use Rattle.state.specs.Quiet.{ahead, ahead-later, Quiet, received-clock, discarded-quiet, query-quiet, update-quiet, own-emptied, joined-within, own-joined}
+use Rattle.state.specs.WellLaws.{MessageOk, message-at, RowOk, ok-row, row-at, asked-at, PhaseOk, ReplicaOk, Well}
 
 sends-later : (s t : State) → Later s t → (sends : Sends) → SendsOk s sends → SendsOk t sends
 sends-later s t l Nothing ok = tt
@@ -49,32 +52,6 @@ sends-later s t l (Reply to letter) ok =
     (rw (l .same-n) (ok .0), record { time = omega (arith, ok .1 .time, l .more); rid = omega (arith, ok .1 .rid, l .more); body = body-later s t l (letter .body) (ok .1 .body) })
 sends-later s t l (Broadcast letter) ok =
     record { time = omega (arith, ok .time, l .more); rid = omega (arith, ok .rid, l .more); body = body-later s t l (letter .body) (ok .body) }
-
--- ---- a row that is completed
-
-module _ (s t : State) (l : Later s t) (r : Row) (k : RowOk s r) (time : Time) (pair : Pair) where
-  completed-ok : time .0 ≤ t .accepted → pairFits (t .accepted) (t .n) pair ≡ true → RowOk t (completed r time pair)
-  completed-ok h f =
-      record {
-        process = rw (l .same-n) (k .process);
-        register = rw (l .same-m) (k .register);
-        invoked = omega (arith, k .invoked, l .more);
-        answered = h;
-        pair = fits (r .kind);
-        written = written (r .kind) (k .written);
-      }
-    where
-      own : pairFits (t .accepted) (t .n) (record { stamp = r .stamp; value = r .value }) ≡ true
-      own = pair-later s t l (record { stamp = r .stamp; value = r .value }) (k .pair)
-
-      fits : (kind : Kind) → pairFits (t .accepted) (t .n) (kept kind r pair) ≡ true
-      fits Read = f
-      fits Write = own
-
-      written : (kind : Kind) → (not (isWrite kind) || not (eqb (r .stamp .time .0) 0)) ≡ true
-          → (not (isWrite kind) || not (eqb (kept kind r pair .stamp .time .0) 0)) ≡ true
-      written Read e = refl
-      written Write e = e
 
 -- ---- the message at a place is taken off
 
@@ -107,44 +84,170 @@ module _ (s : State) (w : Well s) (room : s .accepted < 12000) (i : ℕ) (inside
       same : Later (ahead s) t
       same = record { same-n = refl; same-m = refl; more = omega arith }
 
-  module _ (x : Message) (k : MessageOk s x) where
-    -- the answer of the ack that makes a majority
-    abbrev doneAnswer : Pair → Answer
-    doneAnswer sent =
-        let r = replicaOf s p in
-        let time = after (r .clock .0) (x .time .0) in
-        accepted (placed r time (r .rid .0 + 1) Idle 0 (r .pairs)) Nothing (At (record { 0 = time }) sent)
+  -- p's pending row becomes another of its rows, where that and the answer fit
+  changed-well : (answer : Answer) (row : ℕ) (new : Row) → pendingOf p 1 (s .rows) ≡ row ∷ [] → new .process .0 ≡ p
+      → RowOk (nextBy s i p answer (set (s .rows) (row - 1) new)) new
+      → ReplicaOk (nextBy s i p answer (set (s .rows) (row - 1) new)) p (answer .replica)
+      → SendsOk (nextBy s i p answer (set (s .rows) (row - 1) new)) (answer .sends)
+      → Well (nextBy s i p answer (set (s .rows) (row - 1) new))
+  changed-well answer row new e mine ok own sends =
+      moved-well s p answer (removed i (s .flight)) (s .delivered + 1) (set (s .rows) (row - 1) new) w
+      (record {
+        room = room;
+        actor = actor;
+        taken = taken;
+        messages = every-removed (messageFits s) i (s .flight) (w .messages);
+        numbers = rising-removed 0 (s .sent) i (s .flight) (w .numbers);
+        history = every-set (rowFits t) (s .rows) (row - 1) new (rows-later s t later (s .rows) (w .history)) (ok-row t new ok);
+        own = own;
+        sends = sends;
+        others = λ q g.
+            record {
+              pending = pending-same q 1 (s .rows) (row - 1) new (waits-other p q new mine g ∙ sym (waits-other p q old own-row g));
+              row = λ j f. getD-set-other (s .rows) (row - 1) (j - 1) new emptyRow (λ h. g (other q j f h));
+            };
+      })
+    where
+      old : Row
+      old = getD (s .rows) (row - 1) emptyRow
 
-    done-well : (row : ℕ) (sent : Pair) → pendingOf p 1 (s .rows) ≡ row ∷ [] → pairFits (s .accepted) (s .n) sent ≡ true
-        → Well (nextBy s i p (doneAnswer sent) (answeredRows (s .rows) row (doneAnswer sent .ended)))
-    done-well row sent e f =
-        moved-well s p (doneAnswer sent) (removed i (s .flight)) (s .delivered + 1) (set (s .rows) (row - 1) new) w
+      t : State
+      t = nextBy s i p answer (set (s .rows) (row - 1) new)
+
+      later : Later s t
+      later = moved-later s p answer (removed i (s .flight)) (s .delivered + 1) (set (s .rows) (row - 1) new)
+
+      own-row : old .process .0 ≡ p
+      own-row = pending-process p row (s .rows) e
+
+      -- the only pending row of q is at another place, unless q is p
+      other : (q j : ℕ) → pendingOf q 1 (s .rows) ≡ j ∷ [] → j - 1 ≡ row - 1 → q ≡ p
+      other q j f h =
+          sym (pending-process q j (s .rows) f) ∙ (ap (λ (at : ℕ). getD (s .rows) at emptyRow .process .0) h ∙ own-row)
+
+  module _ (x : Message) (k : MessageOk s x) where
+    -- the clock after the message, and who has replied with it
+    abbrev time : ℕ
+    time = after (replicaOf s p .clock .0) (x .time .0)
+
+    abbrev repliers : ℕ
+    repliers = joined (replicaOf s p .repliers) (x .from .0)
+
+    abbrev isMajority : Bool
+    isMajority = leb (majorityOf (s .n)) (counted repliers)
+
+    enough-replied : isMajority ≡ true → enough s repliers ≡ true
+    enough-replied e = both (inside-fit (s .n) repliers (joined-within s w p actor x k)) e
+
+    pending-place : (row : ℕ) → pendingOf p 1 (s .rows) ≡ row ∷ [] → row - 1 < length (s .rows)
+    pending-place row e = let h = pending-within p row (s .rows) e in omega (arith, h .least, h .most)
+
+    abbrev Takes : ℕ → Answer → Type 0
+    Takes number answer = Well (nextBy s i p answer (answeredRows (s .rows) number (answer .ended)))
+
+    discarded-well : (number : ℕ) → Takes number (discarded (replicaOf s p))
+    discarded-well number = quiet-well number (discarded (replicaOf s p)) (discarded-quiet s w p actor x k)
+
+    -- ---- a response, by the phase that it meets
+
+    -- the answer to the one that makes a majority
+    abbrev chosenAnswer : ℕ → Gathered → Answer
+    chosenAnswer row gathered =
+        let r = replicaOf s p in
+        accepted (placed r time (r .rid .0 + 1) (Updating row (gathered .best)) 0 (r .pairs))
+        (broadcastOf time (r .rid .0 + 1) (Update (rowOf s row .register) (gathered .best))) (Queried repliers)
+
+    chosen-well : (row : ℕ) (gathered : Gathered) → PhaseOk s p (Querying row gathered) 0 → enough s repliers ≡ true → Takes row (chosenAnswer row gathered)
+    chosen-well row gathered o fits =
+        changed-well (chosenAnswer row gathered) row new (o .0) (pending-process p row (s .rows) (o .0))
+        (queried-ok t old (row-later s t later old (row-at s w (row - 1) (pending-place row (o .0)))) repliers fits (o .1))
+        (own-emptied s w p actor x k t (record { same-n = refl; same-m = refl; more = omega arith }) (Updating row (gathered .best))
+        (pending-same p 1 (s .rows) (row - 1) new refl ∙ o .0, pair-later s t later (gathered .best) (o .2), ended))
         (record {
-          room = room;
-          actor = actor;
-          taken = taken;
-          messages = every-removed (messageFits s) i (s .flight) (w .messages);
-          numbers = rising-removed 0 (s .sent) i (s .flight) (w .numbers);
-          history = every-set (rowFits t) (s .rows) (row - 1) new (rows-later s t later (s .rows) (w .history)) (ok-row t new new-ok);
-          own =
-              own-emptied s w p actor x k t (record { same-n = refl; same-m = refl; more = omega arith }) Idle
-              (pending-done p 1 (s .rows) (row - 1) row new (omega (arith, h .number)) e new-done, refl);
-          sends = tt;
-          others = λ q g.
-              record {
-                pending = pending-same q 1 (s .rows) (row - 1) new (waits-other p q new own-row g ∙ sym (waits-other p q old own-row g));
-                kinds = λ j l. answered-stays (λ r. r .kind) (λ r time pair. refl) (s .rows) row (At (record { 0 = time }) sent) (j - 1) (omega (arith, l .least, l .most));
-              };
+          time = received-clock s w p actor x k;
+          rid = omega (arith, w .replica p actor .rid);
+          body = both (ok-within (asked-at s w p row (o .0))) (pair-later s t later (gathered .best) (o .2));
         })
       where
-        time : ℕ
-        time = after (replicaOf s p .clock .0) (x .time .0)
-
         old : Row
         old = getD (s .rows) (row - 1) emptyRow
 
         new : Row
-        new = completed old (record { 0 = time }) sent
+        new = queriedRow old repliers
+
+        t : State
+        t = nextBy s i p (chosenAnswer row gathered) (set (s .rows) (row - 1) new)
+
+        later : Later s t
+        later = moved-later s p (chosenAnswer row gathered) (removed i (s .flight)) (s .delivered + 1) (set (s .rows) (row - 1) new)
+
+        ended : (isWrite (rowOf t row .kind) || enough t (rowOf t row .replied .query)) ≡ true
+        ended =
+            ap (λ (y : Row). isWrite (y .kind) || enough s (y .replied .query)) (getD-set-same (s .rows) (row - 1) new emptyRow (pending-place row (o .0)))
+            ∙ (ap (λ (b : Bool). isWrite (old .kind) || b) fits ∙ or-true (isWrite (old .kind)))
+
+    response-counted : (row : ℕ) (gathered : Gathered) → PhaseOk s p (Querying row gathered) 0
+        → Takes row (responseCounted (replicaOf s p) (s .n) (rowOf s row .register) (x .from) (x .time) row gathered)
+    unfolding responseCounted
+    response-counted row gathered o = go isMajority refl
+      where
+        waiting : Answer
+        waiting =
+            accepted (placed (replicaOf s p) time (replicaOf s p .rid .0) (Querying row gathered) repliers (replicaOf s p .pairs)) Nothing Pending
+
+        go : (b : Bool) → isMajority ≡ b → Takes row (cond b (chosenAnswer row gathered) waiting)
+        go true e = chosen-well row gathered o (enough-replied e)
+        go false e =
+            quiet-well row waiting
+            (record {
+              own =
+                  own-joined s w p actor x k (Querying row gathered)
+                  (o .0, o .1, pair-later s (ahead s) (ahead-later s) (gathered .best) (o .2), o .3) e;
+              sends = tt;
+              ended = refl;
+            })
+
+    response-well : (pair : Pair) → pairFits (s .accepted) (s .n) pair ≡ true
+        → Takes (pointed (replicaOf s p .phase)) (responseRule (replicaOf s p) (s .n) (askedRegister s (replicaOf s p .phase)) (x .from) (x .time) (x .rid) pair)
+    unfolding responseRule
+    response-well pair f = go (replicaOf s p .phase) (w .replica p actor .phase)
+      where
+        go : (phase : Phase) → PhaseOk s p phase (replicaOf s p .repliers)
+            → Takes (pointed phase)
+            (responseTaken (responseCounts phase (replicaOf s p .rid) (x .rid)) (replicaOf s p) (s .n) (askedRegister s phase) (x .from) (x .time) pair)
+        go Idle o = discarded-well 0
+        go (Updating row sent) o = discarded-well row
+        go (Querying row gathered) o = case (eqb (x .rid .0) (replicaOf s p .rid .0))
+          where
+            case : (b : Bool)
+                → Takes row (responseTaken (cond b (For row gathered) Not) (replicaOf s p) (s .n) (rowOf s row .register) (x .from) (x .time) pair)
+            case true =
+                response-counted row (gatheredWith gathered pair)
+                (o .0, o .1, pair-newer (s .accepted) (s .n) (gathered .best) pair (o .2) f, o .3)
+            case false = discarded-well row
+
+    -- ---- an ack, by the phase that it meets
+
+    -- the answer to the one that makes a majority
+    abbrev doneAnswer : Pair → Answer
+    doneAnswer sent =
+        let r = replicaOf s p in
+        accepted (placed r time (r .rid .0 + 1) Idle 0 (r .pairs)) Nothing (At (record { 0 = time }) sent repliers)
+
+    done-well : (row : ℕ) (sent : Pair) → PhaseOk s p (Updating row sent) 0 → enough s repliers ≡ true → Takes row (doneAnswer sent)
+    done-well row sent o fits =
+        changed-well (doneAnswer sent) row new (o .0) (pending-process p row (s .rows) (o .0))
+        (completed-ok t old (row-later s t later old (row-at s w (row - 1) (pending-place row (o .0)))) repliers fits (record { 0 = time }) sent
+        (received-clock s w p actor x k) late (pair-later s t later sent (o .1)) (o .2))
+        (own-emptied s w p actor x k t (record { same-n = refl; same-m = refl; more = omega arith }) Idle
+        (pending-done p 1 (s .rows) (row - 1) row new (omega (arith, pending-within p row (s .rows) (o .0) .least)) (o .0) new-done, refl))
+        tt
+      where
+        old : Row
+        old = getD (s .rows) (row - 1) emptyRow
+
+        new : Row
+        new = completed old (record { 0 = time }) sent repliers
 
         t : State
         t = nextBy s i p (doneAnswer sent) (set (s .rows) (row - 1) new)
@@ -152,45 +255,26 @@ module _ (s : State) (w : Well s) (room : s .accepted < 12000) (i : ℕ) (inside
         later : Later s t
         later = moved-later s p (doneAnswer sent) (removed i (s .flight)) (s .delivered + 1) (set (s .rows) (row - 1) new)
 
-        h : Waiting p 1 (s .rows) row
-        h = pending-first p 1 (s .rows) row [] e
-
-        place : row - 1 < length (s .rows)
-        place = omega (arith, h .number, h .inside)
-
-        new-ok : RowOk t new
-        new-ok =
-            completed-ok s t later old (row-at s w (row - 1) place) (record { 0 = time }) sent (received-clock s w p actor x k)
-            (pair-later s t later sent f)
+        late : eqb time 0 ≡ false
+        late = let g : time ≡ 0 → ⊥ = λ z. omega arith in ne-eqb time 0 g
 
         new-done : waits p new ≡ false
-        new-done =
-            let g : time ≡ 0 → ⊥ = λ z. omega arith in
-            ap (λ (b : Bool). eqb (new .process .0) p && b) (ne-eqb time 0 g) ∙ and-false (eqb (new .process .0) p)
-
-        own-row : old .process .0 ≡ p
-        own-row = pending-process p row (s .rows) e
-
-    -- ---- an ack, by the phase that it meets
-    abbrev Takes : ℕ → Answer → Type 0
-    Takes number answer = Well (nextBy s i p answer (answeredRows (s .rows) number (answer .ended)))
+        new-done = ap (λ (b : Bool). eqb (new .process .0) p && b) late ∙ and-false (eqb (new .process .0) p)
 
     ack-counted : (row : ℕ) (sent : Pair) → PhaseOk s p (Updating row sent) 0 → Takes row (ackCounted (replicaOf s p) (s .n) (x .from) (x .time) row sent)
     unfolding ackCounted
-    ack-counted row sent o = go (leb (majorityOf (s .n)) (counted (joined (replicaOf s p .repliers) (x .from .0)))) refl
+    ack-counted row sent o = go isMajority refl
       where
         waiting : Answer
         waiting =
-            accepted (placed (replicaOf s p) (after (replicaOf s p .clock .0) (x .time .0)) (replicaOf s p .rid .0) (Updating row sent)
-            (joined (replicaOf s p .repliers) (x .from .0)) (replicaOf s p .pairs)) Nothing Pending
+            accepted (placed (replicaOf s p) time (replicaOf s p .rid .0) (Updating row sent) repliers (replicaOf s p .pairs)) Nothing Pending
 
-        go : (b : Bool) → leb (majorityOf (s .n)) (counted (joined (replicaOf s p .repliers) (x .from .0))) ≡ b
-            → Takes row (cond b (doneAnswer sent) waiting)
-        go true e = done-well row sent (o .0) (o .1)
+        go : (b : Bool) → isMajority ≡ b → Takes row (cond b (doneAnswer sent) waiting)
+        go true e = done-well row sent o (enough-replied e)
         go false e =
             quiet-well row waiting
             (record {
-              own = own-joined s w p actor x k (Updating row sent) (o .0, pair-later s (ahead s) (ahead-later s) sent (o .1)) e;
+              own = own-joined s w p actor x k (Updating row sent) (o .0, pair-later s (ahead s) (ahead-later s) sent (o .1), o .2) e;
               sends = tt;
               ended = refl;
             })
@@ -199,23 +283,20 @@ module _ (s : State) (w : Well s) (room : s .accepted < 12000) (i : ℕ) (inside
     unfolding ackRule
     ack-well = go (replicaOf s p .phase) (w .replica p actor .phase)
       where
-        nothing : (number : ℕ) → Takes number (accepted (replicaOf s p) Nothing Pending)
-        nothing number = quiet-well number (accepted (replicaOf s p) Nothing Pending) (discarded-quiet s w p actor x k)
-
         go : (phase : Phase) → PhaseOk s p phase (replicaOf s p .repliers)
             → Takes (pointed phase) (ackTaken (ackCounts phase (replicaOf s p .rid) (x .rid)) (replicaOf s p) (s .n) (x .from) (x .time))
-        go Idle o = nothing 0
-        go (Querying row gathered) o = nothing row
+        go Idle o = discarded-well 0
+        go (Querying row gathered) o = discarded-well row
         go (Updating row sent) o = case (eqb (x .rid .0) (replicaOf s p .rid .0))
           where
             case : (b : Bool) → Takes row (ackTaken (cond b (AckFor row sent) NoAck) (replicaOf s p) (s .n) (x .from) (x .time))
             case true = ack-counted row sent o
-            case false = nothing row
+            case false = discarded-well row
 
     -- ---- any message
     plain-well : (body : Body) → bodyFits s body ≡ true → Takes (pointed (replicaOf s p .phase)) (plainBy s (replicaOf s p) x body)
     plain-well (Query y) f = quiet-well _ _ (query-quiet s w p actor x k y (within-ok y (s .m) f))
-    plain-well (Response pair) f = quiet-well _ _ (response-quiet s w p actor x k pair f)
+    plain-well (Response pair) f = response-well pair f
     plain-well (Update y pair) f =
         let a : Bool = within y (s .m) in
         let b : Bool = pairFits (s .accepted) (s .n) pair in

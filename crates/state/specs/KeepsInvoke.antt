@@ -1,7 +1,7 @@
 -- An accepted invocation keeps well-formedness: a row is added that is the only pending one of its process, and a letter goes to all.
 use Prim.Native.Nat.{ℕ, _+_, _-_}
 use mathlib.Core.Path.{_≡_, refl, sym, ap, subst, _∙_}
-use mathlib.Core.Bool.{Bool, true, not, cond, _&&_, false≢true}
+use mathlib.Core.Bool.{Bool, true, not, cond, _&&_, _||_, or-true, false≢true}
 use mathlib.Core.List.{List, [], _∷_, _++_, append-nil}
 use native.Mathlib.Omega.{arith}
 use lib.Dec.{eqb}
@@ -24,13 +24,13 @@ use Rattle.tables.specs.declared.Row.{Row}
 use Rattle.tables.specs.Tables.{emptyRow}
 use Rattle.state.specs.State.{State, replicaOf}
 use Rattle.state.specs.Step.{readRow, writeRow, moved, stepRead, stepWrite}
-use Rattle.state.specs.WellFormed.{bodyFits, rowFits, isWrite, pendingOf}
+use Rattle.state.specs.WellFormed.{bodyFits, rowFits, isWrite, enough, pendingOf}
 use Rattle.state.specs.Accepted.{Invoked, readNext, writeNext, read-accepted, write-accepted}
 use Rattle.state.specs.EveryLaws.{both, every-append}
 use Rattle.state.specs.KeepsMoved.{moved-later, moved-well}
 use Rattle.state.specs.LaterLaws.{Later, rows-later, pairs-later}
 use Rattle.state.specs.PairLaws.{Within, ok-within, pair-start, pair-own}
-use Rattle.state.specs.PendingLaws.{waits, pending-append}
+use Rattle.state.specs.PendingLaws.{waits, pending-within, pending-append}
 use Rattle.state.specs.WellLaws.{RowOk, ok-row, PhaseOk, ReplicaOk, Well}
 
 idle-none : (s : State) (p : ℕ) (phase : Phase) (repliers : ℕ) → isIdle phase ≡ true → PhaseOk s p phase repliers → pendingOf p 1 (s .rows) ≡ []
@@ -96,7 +96,9 @@ module _ (s : State) (w : Well s) (p x : ℕ) (i : Invoked s p x) where
         others = λ q g.
             record {
               pending = added-other (s .rows) row q (λ h. g (sym h ∙ f));
-              kinds = λ j l. ap (λ (y : Row). y .kind) (List·getD-append (s .rows) (row ∷ []) emptyRow (j - 1) (omega (arith, l .least, l .most)));
+              row = λ j h.
+                  let l = pending-within q j (s .rows) h in
+                  List·getD-append (s .rows) (row ∷ []) emptyRow (j - 1) (omega (arith, l .least, l .most));
             };
       })
     where
@@ -120,9 +122,16 @@ module _ (s : State) (w : Well s) (p x : ℕ) (i : Invoked s p x) where
         answered = omega arith;
         pair = pair-start (s .accepted + 1) (s .n);
         written = refl;
+        query = or-true (enough s 0);
+        update = refl;
       })
       (ok-within (i .register))
-      (λ e. (e, ap (λ (y : Row). isWrite (y .kind)) (added-last (s .rows) row), pair-start (s .accepted + 1) (s .n)))
+      (λ e. (
+        e,
+        ap (λ (y : Row). isWrite (y .kind)) (added-last (s .rows) row),
+        pair-start (s .accepted + 1) (s .n),
+        ap (λ (y : Row). y .replied .query) (added-last (s .rows) row),
+      ))
     where
       row : Row
       row = readRow p x (replicaOf s p .clock .0 + 1)
@@ -138,9 +147,11 @@ module _ (s : State) (w : Well s) (p x : ℕ) (i : Invoked s p x) where
         answered = omega arith;
         pair = fits;
         written = let f : time ≡ 0 → ⊥ = λ e. omega (arith, stamped .least) in ap not (ne-eqb time 0 f);
+        query = refl;
+        update = refl;
       })
       (both (ok-within (i .register)) fits)
-      (λ e. (e, fits))
+      (λ e. (e, fits, ap (λ (y : Row). isWrite (y .kind) || enough s (y .replied .query)) (added-last (s .rows) (writeRow p x value time))))
     where
       time : ℕ
       time = replicaOf s p .clock .0 + 1

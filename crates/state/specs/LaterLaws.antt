@@ -2,15 +2,17 @@
 -- own pending rows stay as they were.
 use Prim.Native.Nat.{ℕ, zero, suc, _-_, _≤_}
 use mathlib.Core.Path.{_≡_, refl, ap, _∙_}
-use mathlib.Core.Bool.{true}
+use mathlib.Core.Bool.{Bool, true, cond, _&&_, _||_}
 use mathlib.Core.List.{List, [], _∷_}
 use native.Mathlib.Omega.{arith}
-use lib.ListN.{length, getD}
+use lib.Dec.{eqb, leb}
+use lib.ListN.{getD}
 use Rattle.words.specs.declared.Body.{Body}
 use Rattle.words.specs.declared.Body.the-variants.{Query, Response, Update, Ack}
 use Rattle.words.specs.declared.Message.{Message}
 use Rattle.words.specs.declared.Pair.{Pair}
-use Rattle.words.specs.Ranges.{within, pairFits}
+use Rattle.words.specs.Quorum.{counted, majorityOf}
+use Rattle.words.specs.Ranges.{within, pairFits, repliersFit}
 use Rattle.words.specs.RangeLaws.{and-left, and-right}
 use Rattle.replica.specs.declared.Phase.{Phase}
 use Rattle.replica.specs.declared.Phase.the-variants.{Idle, Querying, Updating}
@@ -18,11 +20,10 @@ use Rattle.replica.specs.declared.Replica.{Replica}
 use Rattle.tables.specs.declared.Row.{Row}
 use Rattle.tables.specs.Tables.{emptyRow}
 use Rattle.state.specs.State.{State, rowOf}
-use Rattle.state.specs.WellFormed.{every, bodyFits, messageFits, isWrite, rowFits, pendingOf, pairsFit}
+use Rattle.state.specs.WellFormed.{every, bodyFits, messageFits, isWrite, enough, rowFits, pendingOf, pairsFit}
 use Rattle.state.specs.EveryLaws.{both, every-mono}
-use Rattle.state.specs.PairLaws.{Within, pair-wider}
-use Rattle.state.specs.PendingLaws.{pending-within}
-use Rattle.state.specs.WellLaws.{message-ok, ok-message, row-ok, ok-row, PhaseOk, ReplicaOk}
+use Rattle.state.specs.PairLaws.{pair-wider}
+use Rattle.state.specs.WellLaws.{message-ok, ok-message, RowOk, row-ok, ok-row, PhaseOk, ReplicaOk}
 
 -- t is of the same bench as s, and no fewer events are accepted in it
 pub record Later (s t : State) : Type 0 where
@@ -30,17 +31,17 @@ pub record Later (s t : State) : Type 0 where
   pub same-m : t .m ≡ s .m
   pub more : s .accepted ≤ t .accepted
 
--- the pending rows of p are the same in both, and no row has another kind
+-- the pending rows of p have the same numbers in both, and an only one is the same row
 pub record Kept (s t : State) (p : ℕ) : Type 0 where
   pub pending : pendingOf p 1 (t .rows) ≡ pendingOf p 1 (s .rows)
-  pub kinds : (i : ℕ) → Within i (length (s .rows)) → rowOf t i .kind ≡ rowOf s i .kind
+  pub row : (i : ℕ) → pendingOf p 1 (s .rows) ≡ i ∷ [] → rowOf t i ≡ rowOf s i
 
 -- so where the rows are the same
 pub kept-rows : (s t : State) (p : ℕ) → t .rows ≡ s .rows → Kept s t p
 kept-rows s t p e =
     record {
       pending = ap (pendingOf p 1) e;
-      kinds = λ i l. ap (λ (rows : List Row). getD rows (i - 1) emptyRow .kind) e;
+      row = λ i l. ap (λ (rows : List Row). getD rows (i - 1) emptyRow) e;
     }
 
 module _ (s t : State) (l : Later s t) where
@@ -70,21 +71,28 @@ module _ (s t : State) (l : Later s t) where
   pub messages-later : (xs : List Message) → every (messageFits s) xs ≡ true → every (messageFits t) xs ≡ true
   messages-later = every-mono (messageFits s) (messageFits t) message-later
 
-  row-later : (r : Row) → rowFits s r ≡ true → rowFits t r ≡ true
-  row-later r e =
-      let k = row-ok s r e in
-      ok-row t r
-      (record {
+  -- as many processes are enough
+  pub enough-later : (set : ℕ) → enough t set ≡ enough s set
+  enough-later set = ap (λ (n : ℕ). repliersFit n set && leb (majorityOf n) (counted set)) (l .same-n)
+
+  pub row-later : (r : Row) → RowOk s r → RowOk t r
+  row-later r k =
+      record {
         process = rw (l .same-n) (k .process);
         register = rw (l .same-m) (k .register);
         invoked = omega (arith, k .invoked, l .more);
         answered = omega (arith, k .answered, l .more);
         pair = pair-later (record { stamp = r .stamp; value = r .value }) (k .pair);
         written = k .written;
-      })
+        query =
+            ap (λ (b : Bool). cond (isWrite (r .kind)) (eqb (r .replied .query) 0) (b || (eqb (r .answered .0) 0 && eqb (r .replied .query) 0)))
+            (enough-later (r .replied .query))
+            ∙ k .query;
+        update = ap (cond (eqb (r .answered .0) 0) (eqb (r .replied .update) 0)) (enough-later (r .replied .update)) ∙ k .update;
+      }
 
   pub rows-later : (rows : List Row) → every (rowFits s) rows ≡ true → every (rowFits t) rows ≡ true
-  rows-later = every-mono (rowFits s) (rowFits t) row-later
+  rows-later = every-mono (rowFits s) (rowFits t) (λ r e. ok-row t r (row-later r (row-ok s r e)))
 
   pub pairs-later : (k : ℕ) (ps : List Pair) → pairsFit s k ps ≡ true → pairsFit t k ps ≡ true
   pairs-later zero ps e = e
@@ -93,12 +101,21 @@ module _ (s t : State) (l : Later s t) where
       both (pair-later p (and-left (pairFits (s .accepted) (s .n) p) (pairsFit s k ps) e))
       (pairs-later k ps (and-right (pairFits (s .accepted) (s .n) p) (pairsFit s k ps) e))
 
-  -- the row that a replica points to is one of the rows
   phase-later : (p : ℕ) → Kept s t p → (phase : Phase) (repliers : ℕ) → PhaseOk s p phase repliers → PhaseOk t p phase repliers
   phase-later p k Idle repliers o = (k .pending ∙ o .0, o .1)
   phase-later p k (Querying row gathered) repliers o =
-      (k .pending ∙ o .0, ap isWrite (k .kinds row (pending-within p row (s .rows) (o .0))) ∙ o .1, pair-later (gathered .best) (o .2))
-  phase-later p k (Updating row sent) repliers o = (k .pending ∙ o .0, pair-later sent (o .1))
+      let same = k .row row (o .0) in (
+        k .pending ∙ o .0,
+        ap (λ (r : Row). isWrite (r .kind)) same ∙ o .1,
+        pair-later (gathered .best) (o .2),
+        ap (λ (r : Row). r .replied .query) same ∙ o .3,
+      )
+  phase-later p k (Updating row sent) repliers o = (
+    k .pending ∙ o .0,
+    pair-later sent (o .1),
+    ap (λ (r : Row). isWrite (r .kind) || enough t (r .replied .query)) (k .row row (o .0))
+        ∙ (ap (λ (b : Bool). isWrite (rowOf s row .kind) || b) (enough-later (rowOf s row .replied .query)) ∙ o .2),
+  )
 
   pub replica-later : (p : ℕ) → Kept s t p → (r : Replica) → ReplicaOk s p r → ReplicaOk t p r
   replica-later p k r o =

@@ -26,6 +26,7 @@ pub mod KeepsMoved
 pub mod KeepsInvoke
 pub mod KeepsCrash
 pub mod Quiet
+pub mod KeepsRow
 pub mod KeepsDeliver
 pub mod Keeps
 pub mod Inside

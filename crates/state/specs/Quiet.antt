@@ -1,39 +1,30 @@
--- The answers to a message that end no operation: in a well-formed state what the plain rules make of the replica, and what they send, fit one event
--- later.
+-- The answers to a message that end no phase: in a well-formed state what the plain rules make of the replica, and what they send, fit one event
+-- later. And the replica of one that does, and of one that is counted on the way there.
 use Prim.Native.Nat.{ℕ, _+_, _-_, _≤_}
 use mathlib.Core.Path.{_≡_, refl, ap, _∙_}
-use mathlib.Core.Bool.{Bool, true, false, cond}
+use mathlib.Core.Bool.{true, false}
 use native.Mathlib.Omega.{arith}
-use lib.Dec.{eqb, leb}
+use lib.Dec.{leb}
 use lib.ListN.{length-set}
 use borrow.Author.Tests.{leb-false}
-use Rattle.words.specs.declared.Body.the-variants.{Update}
 use Rattle.words.specs.declared.Message.{Message}
 use Rattle.words.specs.declared.Pair.{Pair}
 use Rattle.words.specs.Quorum.{joined, counted, majorityOf}
-use Rattle.words.specs.QuorumLaws.{inside-empty, joined-inside, counted-empty}
+use Rattle.words.specs.QuorumLaws.{Inside, inside-empty, joined-inside, counted-empty}
 use Rattle.words.specs.Ranges.{pairFits}
 use Rattle.words.specs.Stamps.{newer}
 use Rattle.replica.specs.declared.Answer.{Answer}
-use Rattle.replica.specs.declared.Gathered.{Gathered}
-use Rattle.replica.specs.declared.ResponseCounts.the-variants.{Not, For}
 use Rattle.replica.specs.declared.Ended.the-variants.{Pending}
 use Rattle.replica.specs.declared.Phase.{Phase}
-use Rattle.replica.specs.declared.Phase.the-variants.{Idle, Querying, Updating}
-use Rattle.replica.specs.declared.Sends.the-variants.{Nothing}
 use Rattle.replica.specs.Clock.{after}
 use Rattle.replica.specs.ClockLaws.{after-least}
-use Rattle.replica.specs.Handlers.{accepted, broadcastOf, stored, discarded, became as placed}
-use Rattle.replica.specs.Gathering.{gatheredWith}
-use Rattle.replica.specs.Handlers.{queryRule, updateRule, responseCounts, responseCounted, responseTaken, responseRule}
-use Rattle.state.specs.State.{State, replicaOf, rowOf}
-use Rattle.state.specs.Step.{askedRegister}
+use Rattle.replica.specs.Handlers.{stored, discarded, queryRule, updateRule, became as placed}
+use Rattle.state.specs.State.{State, replicaOf}
 use Rattle.state.specs.WellFormed.{pairsFit}
-use Rattle.state.specs.EveryLaws.{both}
 use Rattle.state.specs.KeepsMoved.{SendsOk}
 use Rattle.state.specs.LaterLaws.{Later, kept-rows, replica-later, pair-later, pairs-later}
-use Rattle.state.specs.PairLaws.{Within, ok-within, pair-newer, pairs-set}
-use Rattle.state.specs.WellLaws.{MessageOk, PhaseOk, ReplicaOk, Well, stored-at, asked-at}
+use Rattle.state.specs.PairLaws.{Within, pair-newer, pairs-set}
+use Rattle.state.specs.WellLaws.{MessageOk, PhaseOk, ReplicaOk, Well, stored-at}
 
 -- one event later, and nothing else
 abbrev pub ahead : State → State
@@ -129,6 +120,11 @@ module _ (s : State) (w : Well s) (p : ℕ) (actor : Within p (s .n)) (x : Messa
         phase = o;
       }
 
+  -- with the sender, the set is one of processes 1..N
+  pub joined-within : Inside (s .n) (joined (replicaOf s p .repliers) (x .from .0))
+  joined-within =
+      joined-inside (s .n) (replicaOf s p .repliers) (x .from .0) (k .sender .least) (k .sender .most) (w .processes .most) (w .replica p actor .inside)
+
   pub own-joined : (phase : Phase) → PhaseOk (ahead s) p phase (joined (replicaOf s p .repliers) (x .from .0))
       → leb (majorityOf (s .n)) (counted (joined (replicaOf s p .repliers) (x .from .0))) ≡ false
       → ReplicaOk (ahead s) p
@@ -139,53 +135,7 @@ module _ (s : State) (w : Well s) (p : ℕ) (actor : Within p (s .n)) (x : Messa
         rid = own-later .rid;
         sixteen = own-later .sixteen;
         pairs = own-later .pairs;
-        inside = joined-inside (s .n) (replicaOf s p .repliers) (x .from .0) (k .sender .least) (k .sender .most) (w .processes .most) (own-later .inside);
+        inside = joined-within;
         few = leb-false (majorityOf (s .n)) (counted (joined (replicaOf s p .repliers) (x .from .0))) few;
         phase = o;
       }
-
-  -- ---- a response
-
-  counted-quiet : (row : ℕ) (gathered : Gathered) → PhaseOk (ahead s) p (Querying row gathered) 0
-      → Quiet s p (responseCounted (replicaOf s p) (s .n) (rowOf s row .register) (x .from) (x .time) row gathered)
-  unfolding responseCounted
-  counted-quiet row gathered o = go (leb (majorityOf (s .n)) (counted (joined (replicaOf s p .repliers) (x .from .0)))) refl
-    where
-      time : ℕ
-      time = after (replicaOf s p .clock .0) (x .time .0)
-
-      go : (b : Bool) → leb (majorityOf (s .n)) (counted (joined (replicaOf s p .repliers) (x .from .0))) ≡ b
-          → Quiet s p (cond b
-          (accepted (placed (replicaOf s p) time (replicaOf s p .rid .0 + 1) (Updating row (gathered .best)) 0 (replicaOf s p .pairs))
-          (broadcastOf time (replicaOf s p .rid .0 + 1) (Update (rowOf s row .register) (gathered .best))) Pending)
-          (accepted (placed (replicaOf s p) time (replicaOf s p .rid .0) (Querying row gathered) (joined (replicaOf s p .repliers) (x .from .0)) (replicaOf s p .pairs))
-          Nothing Pending))
-      go true e =
-          record {
-            own = own-emptied (ahead s) (record { same-n = refl; same-m = refl; more = omega arith }) (Updating row (gathered .best)) (o .0, o .2);
-            sends =
-                record {
-                  time = received-clock;
-                  rid = omega (arith, w .replica p actor .rid);
-                  body = both (ok-within (asked-at s w p row (o .0))) (o .2);
-                };
-            ended = refl;
-          }
-      go false e = record { own = own-joined (Querying row gathered) o e; sends = tt; ended = refl }
-
-  pub response-quiet : (pair : Pair) → pairFits (s .accepted) (s .n) pair ≡ true
-      → Quiet s p (responseRule (replicaOf s p) (s .n) (askedRegister s (replicaOf s p .phase)) (x .from) (x .time) (x .rid) pair)
-  unfolding responseRule
-  response-quiet pair f = go (replicaOf s p .phase) (own-later .phase)
-    where
-      go : (phase : Phase) → PhaseOk (ahead s) p phase (replicaOf s p .repliers)
-          → Quiet s p (responseTaken (responseCounts phase (replicaOf s p .rid) (x .rid)) (replicaOf s p) (s .n) (askedRegister s phase) (x .from) (x .time) pair)
-      go Idle o = discarded-quiet
-      go (Querying row gathered) o = case (eqb (x .rid .0) (replicaOf s p .rid .0))
-        where
-          case : (b : Bool) → Quiet s p (responseTaken (cond b (For row gathered) Not) (replicaOf s p) (s .n) (rowOf s row .register) (x .from) (x .time) pair)
-          case true =
-              counted-quiet row (gatheredWith gathered pair)
-              (o .0, o .1, pair-newer (s .accepted + 1) (s .n) (gathered .best) pair (o .2) (pair-later s (ahead s) (ahead-later s) pair f))
-          case false = discarded-quiet
-      go (Updating row sent) o = discarded-quiet

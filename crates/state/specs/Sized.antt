@@ -8,7 +8,7 @@ use lib.ListN.{length, getD, length-append, length-set}
 use Rattle.words.specs.declared.Message.{Message}
 use Rattle.replica.specs.declared.Answer.{Answer}
 use Rattle.replica.specs.declared.Ended.{Ended}
-use Rattle.replica.specs.declared.Ended.the-variants.{Pending, At}
+use Rattle.replica.specs.declared.Ended.the-variants.{Pending, Query, At}
 use Rattle.replica.specs.Handlers.{readRule, writeRule, crashRule}
 use Rattle.replica.specs.Numbers.{sentBy, pointed}
 use Rattle.tables.specs.declared.Row.{Row}
@@ -16,7 +16,7 @@ use Rattle.tables.specs.Tables.{emptyRow, removed}
 use Rattle.state.specs.declared.Event.{Event}
 use Rattle.state.specs.declared.Event.the-variants.{Read, Write, Deliver, Crash, Lose}
 use Rattle.state.specs.State.{State, replicaOf}
-use Rattle.state.specs.Step.{posted, readRow, writeRow, completed, answeredRows, moved, withoutMessage, step}
+use Rattle.state.specs.Step.{posted, readRow, writeRow, completed, queriedRow, answeredRows, moved, withoutMessage, step}
 use Rattle.state.specs.Reached.{Reached, start, next}
 use Rattle.state.specs.Accepted.{Invoked, readNext, writeNext, crashNext, deliverNext, plain, messageAt, recipientAt, InFlight, Deliverable}
 use Rattle.state.specs.Accepted.{read-accepted, write-accepted, crash-accepted, deliver-accepted, lose-accepted}
@@ -60,7 +60,8 @@ crash-sized s p z = moved-sized s p (crashRule (replicaOf s p)) (s .flight) (s .
 
 pub answered-length : (rows : List Row) (number : ℕ) (ended : Ended) → length (answeredRows rows number ended) ≡ length rows
 answered-length rows number Pending = refl
-answered-length rows number (At time pair) = length-set rows (number - 1) (completed (getD rows (number - 1) emptyRow) time pair)
+answered-length rows number (Query who) = length-set rows (number - 1) (queriedRow (getD rows (number - 1) emptyRow) who)
+answered-length rows number (At time pair who) = length-set rows (number - 1) (completed (getD rows (number - 1) emptyRow) time pair who)
 
 deliver-sized : (s : State) (k i : ℕ) → Deliverable s k i → Sized s → Sized (deliverNext s i)
 deliver-sized s k i d z =

@@ -19,7 +19,7 @@ use Rattle.words.specs.Ranges.{within}
 use Rattle.words.specs.Stamps.{stampOf, startStamp}
 use Rattle.replica.specs.declared.Answer.{Answer}
 use Rattle.replica.specs.declared.Ended.{Ended}
-use Rattle.replica.specs.declared.Ended.the-variants.{Pending, At}
+use Rattle.replica.specs.declared.Ended.the-variants.{Pending, Query as Queried, At}
 use Rattle.replica.specs.declared.Letter.{Letter}
 use Rattle.replica.specs.declared.Phase.{Phase}
 use Rattle.replica.specs.declared.Phase.the-variants.{Idle, Querying, Updating}
@@ -27,13 +27,13 @@ use Rattle.replica.specs.declared.Replica.{Replica}
 use Rattle.replica.specs.declared.Sends.{Sends}
 use Rattle.replica.specs.declared.Sends.the-variants.{Nothing, Reply, Broadcast}
 use Rattle.replica.specs.Handlers.{isIdle, readBegun, writeBegun, queryReceived, updateReceived, responseReceived, ackReceived, crashed}
-use Rattle.replica.specs.Numbers.{sentBy, answeredAt, chosenBy, pointed}
+use Rattle.replica.specs.Numbers.{sentBy, answeredAt, chosenBy, endedBy, pointed}
 use Rattle.tables.specs.declared.Found.{Found}
 use Rattle.tables.specs.declared.Found.the-variants.{At as Place, Missing}
 use Rattle.tables.specs.declared.Kind.{Kind}
 use Rattle.tables.specs.declared.Kind.the-variants.{Read as ReadKind, Write as WriteKind}
 use Rattle.tables.specs.declared.Row.{Row}
-use Rattle.tables.specs.Tables.{emptyMessage, emptyRow, seek, removed, copies}
+use Rattle.tables.specs.Tables.{emptyMessage, nobody, emptyRow, seek, removed, copies}
 use Rattle.state.specs.declared.Event.{Event}
 use Rattle.state.specs.declared.Event.the-variants.{Read, Write, Deliver, Crash, Lose}
 use Rattle.state.specs.State.{State, replicaOf, rowOf}
@@ -72,6 +72,7 @@ begunRow p kind x clock stamp value =
       answered = record { 0 = 0 };
       stamp = stamp;
       value = value;
+      replied = nobody;
     }
 
 -- a write's stamp and value stand from its invocation, a pending read has stamp (0, 0) and value 0
@@ -90,8 +91,9 @@ given WriteKind pair = none
 abbrev pub kept : Kind → Row → Pair → Pair
 kept kind row pair = Option·getD (given kind pair) (record { stamp = row .stamp; value = row .value })
 
-abbrev pub completed : Row → Time → Pair → Row
-completed row time pair =
+-- the operation in this row is complete: its update phase ended by the acks of this set
+abbrev pub completed : Row → Time → Pair → ℕ → Row
+completed row time pair who =
     record {
       process = row .process;
       kind = row .kind;
@@ -100,15 +102,31 @@ completed row time pair =
       answered = time;
       stamp = kept (row .kind) row pair .stamp;
       value = kept (row .kind) row pair .value;
+      replied = record { query = row .replied .query; update = who };
     }
 
--- the row of an operation that ended so: its response time, and the pair that was chosen
+-- the query phase of the operation in this row ended by the replies of this set
+abbrev pub queriedRow : Row → ℕ → Row
+queriedRow row who =
+    record {
+      process = row .process;
+      kind = row .kind;
+      register = row .register;
+      invoked = row .invoked;
+      answered = row .answered;
+      stamp = row .stamp;
+      value = row .value;
+      replied = record { query = who; update = row .replied .update };
+    }
+
+-- the row of an operation that ended so: its response time, the pair that was chosen, and whose replies ended it
 abbrev pub endedRow : Row → Ended → Row
-endedRow row ended = completed row (record { 0 = answeredAt ended }) (chosenBy ended)
+endedRow row ended = completed row (record { 0 = answeredAt ended }) (chosenBy ended) (endedBy ended)
 
 abbrev pub answeredRows : List Row → ℕ → Ended → List Row
 answeredRows rows number Pending = rows
-answeredRows rows number (At time pair) = set rows (number - 1) (endedRow (getD rows (number - 1) emptyRow) (At time pair))
+answeredRows rows number (Queried who) = set rows (number - 1) (queriedRow (getD rows (number - 1) emptyRow) who)
+answeredRows rows number (At time pair who) = set rows (number - 1) (endedRow (getD rows (number - 1) emptyRow) (At time pair who))
 
 -- ---- the next state
 

@@ -31,6 +31,7 @@ abbrev pub isEmptyRow : Row → Bool
 isEmptyRow r =
     eqb (r .process .0) 0 && not (isWrite (r .kind)) && eqb (r .register) 0 && eqb (r .invoked .0) 0 && eqb (r .answered .0) 0
     && eqb (r .stamp .time .0) 0 && eqb (r .stamp .process .0) 0 && isZero (r .value)
+    && eqb (r .replied .query) 0 && eqb (r .replied .update) 0
 
 -- a lent table has exactly the stated length
 abbrev pub lengthsFit : List Message → List Row → Bool

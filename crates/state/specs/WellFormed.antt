@@ -52,17 +52,31 @@ rising below most (m ∷ rest) = ltb below (m .number) && leb (m .number) most &
 unfoldable pub flightFits : State → Bool
 flightFits s = every (messageFits s) (s .flight) && rising 0 (s .sent) (s .flight)
 
--- ---- rows: processes 1..N, registers 1..M, times, pairs; a write row's stamp time is not 0
+-- ---- rows: processes 1..N, registers 1..M, times, pairs; a write row's stamp time is not 0; whose replies ended its phases (document 02, "Wish 4")
 
 abbrev pub isWrite : Kind → Bool
 isWrite Read = false
 isWrite Write = true
 
+-- a set that ended a phase: enough processes, all of 1..N
+abbrev pub enough : State → ℕ → Bool
+enough s set = repliersFit (s .n) set && leb (majorityOf (s .n)) (counted set)
+
+-- the query phase: a write has none; a completed read's has ended, a pending one's may have
+abbrev pub queryFits : State → Row → Bool
+queryFits s r =
+    cond (isWrite (r .kind)) (eqb (r .replied .query) 0)
+    (enough s (r .replied .query) || (eqb (r .answered .0) 0 && eqb (r .replied .query) 0))
+
+-- the update phase of a completed operation has ended, that of a pending one has not
+abbrev pub updateFits : State → Row → Bool
+updateFits s r = cond (eqb (r .answered .0) 0) (eqb (r .replied .update) 0) (enough s (r .replied .update))
+
 abbrev pub rowFits : State → Row → Bool
 rowFits s r =
     within (r .process .0) (s .n) && within (r .register) (s .m) && leb (r .invoked .0) (s .accepted) && leb (r .answered .0) (s .accepted)
     && pairFits (s .accepted) (s .n) (record { stamp = r .stamp; value = r .value })
-    && (not (isWrite (r .kind)) || not (eqb (r .stamp .time .0) 0))
+    && (not (isWrite (r .kind)) || not (eqb (r .stamp .time .0) 0)) && queryFits s r && updateFits s r
 
 unfoldable pub historyFits : State → Bool
 historyFits s = every (rowFits s) (s .rows)
@@ -82,12 +96,16 @@ abbrev pub isOnly : ℕ → List ℕ → Bool
 isOnly row [] = false
 isOnly row (i ∷ rest) = eqb i row && isEmpty rest
 
--- a waiting replica points to the only pending row of its own, a read's if it is querying; an idle one has none and an empty set
+-- a waiting replica points to the only pending row of its own, a read's if it is querying, whose query phase has not ended then; that of a read
+-- has if it is updating; an idle one has none and an empty set
 abbrev pub phaseFits : State → ℕ → Phase → ℕ → Bool
 phaseFits s p Idle repliers = isEmpty (pendingOf p 1 (s .rows)) && eqb repliers 0
 phaseFits s p (Querying row gathered) repliers =
     isOnly row (pendingOf p 1 (s .rows)) && not (isWrite (rowOf s row .kind)) && pairFits (s .accepted) (s .n) (gathered .best)
-phaseFits s p (Updating row sent) repliers = isOnly row (pendingOf p 1 (s .rows)) && pairFits (s .accepted) (s .n) sent
+    && eqb (rowOf s row .replied .query) 0
+phaseFits s p (Updating row sent) repliers =
+    isOnly row (pendingOf p 1 (s .rows)) && pairFits (s .accepted) (s .n) sent
+    && (isWrite (rowOf s row .kind) || enough s (rowOf s row .replied .query))
 
 abbrev pub isStart : Pair → Bool
 isStart p = eqb (p .stamp .time .0) 0 && eqb (p .stamp .process .0) 0 && isZero (p .value)

@@ -22,7 +22,7 @@ use Rattle.replica.specs.Handlers.{stored}
 use Rattle.tables.specs.declared.Row.{Row}
 use Rattle.tables.specs.Tables.{emptyMessage, emptyRow}
 use Rattle.state.specs.State.{State, freshReplica, replicaOf, rowOf}
-use Rattle.state.specs.WellFormed.{every, countsFit, bodyFits, messageFits, rising, flightFits, isWrite, rowFits, historyFits}
+use Rattle.state.specs.WellFormed.{every, countsFit, bodyFits, messageFits, rising, flightFits, isWrite, enough, queryFits, updateFits, rowFits, historyFits}
 use Rattle.state.specs.WellFormed.{pendingOf, isEmpty, isOnly, phaseFits, pairsFit, replicaFits, isFresh, eachFits, replicasFit, wellFormed}
 use Rattle.state.specs.EveryLaws.{both, every-at}
 use Rattle.state.specs.PairLaws.{Within, within-ok, ok-within, pairs-at}
@@ -68,6 +68,8 @@ pub record RowOk (s : State) (r : Row) : Type 0 where
   pub answered : r .answered .0 ≤ s .accepted
   pub pair : pairFits (s .accepted) (s .n) (record { stamp = r .stamp; value = r .value }) ≡ true
   pub written : (not (isWrite (r .kind)) || not (eqb (r .stamp .time .0) 0)) ≡ true
+  pub query : queryFits s r ≡ true
+  pub update : updateFits s r ≡ true
 
 module _ (s : State) (r : Row) where
   pub row-ok : rowFits s r ≡ true → RowOk s r
@@ -78,7 +80,11 @@ module _ (s : State) (r : Row) where
       let d : Bool = leb (r .answered .0) (s .accepted) in
       let p : Bool = pairFits (s .accepted) (s .n) (record { stamp = r .stamp; value = r .value }) in
       let w : Bool = not (isWrite (r .kind)) || not (eqb (r .stamp .time .0) 0) in
-      let o : (a && b && c && d && p) ≡ true = and-left (a && b && c && d && p) w e in
+      let y : Bool = queryFits s r in
+      let z : Bool = updateFits s r in
+      let e₂ : (a && b && c && d && p && w && y) ≡ true = and-left (a && b && c && d && p && w && y) z e in
+      let e₁ : (a && b && c && d && p && w) ≡ true = and-left (a && b && c && d && p && w) y e₂ in
+      let o : (a && b && c && d && p) ≡ true = and-left (a && b && c && d && p) w e₁ in
       let f : (a && b && c && d) ≡ true = and-left (a && b && c && d) p o in
       let g : (a && b && c) ≡ true = and-left (a && b && c) d f in
       let h : (a && b) ≡ true = and-left (a && b) c g in
@@ -88,24 +94,28 @@ module _ (s : State) (r : Row) where
         invoked = leb-true _ _ (and-right (a && b) c g);
         answered = leb-true _ _ (and-right (a && b && c) d f);
         pair = and-right (a && b && c && d) p o;
-        written = and-right (a && b && c && d && p) w e;
+        written = and-right (a && b && c && d && p) w e₁;
+        query = and-right (a && b && c && d && p && w) y e₂;
+        update = and-right (a && b && c && d && p && w && y) z e;
       }
 
   pub ok-row : RowOk s r → rowFits s r ≡ true
   ok-row k =
-      both
-      (both
+      both (both (both (both
       (both (both (both (ok-within (k .process)) (ok-within (k .register))) (le-leb _ _ (k .invoked))) (le-leb _ _ (k .answered)))
-      (k .pair))
-      (k .written)
+      (k .pair)) (k .written)) (k .query)) (k .update)
 
--- ---- a phase: a waiting replica of p points to p's only pending row
+-- ---- a phase: a waiting replica of p points to p's only pending row; the row's query phase has not ended while it is querying, and that of a read has
+-- while it is updating
 
 abbrev pub PhaseOk : State → ℕ → Phase → ℕ → Type 0
 PhaseOk s p Idle repliers = (pendingOf p 1 (s .rows) ≡ []) × (repliers ≡ 0)
 PhaseOk s p (Querying row gathered) repliers =
     (pendingOf p 1 (s .rows) ≡ row ∷ []) × (isWrite (rowOf s row .kind) ≡ false) × (pairFits (s .accepted) (s .n) (gathered .best) ≡ true)
-PhaseOk s p (Updating row sent) repliers = (pendingOf p 1 (s .rows) ≡ row ∷ []) × (pairFits (s .accepted) (s .n) sent ≡ true)
+    × (rowOf s row .replied .query ≡ 0)
+PhaseOk s p (Updating row sent) repliers =
+    (pendingOf p 1 (s .rows) ≡ row ∷ []) × (pairFits (s .accepted) (s .n) sent ≡ true)
+    × ((isWrite (rowOf s row .kind) || enough s (rowOf s row .replied .query)) ≡ true)
 
 empty-ok : (l : List ℕ) → isEmpty l ≡ true → l ≡ []
 empty-ok [] e = refl
@@ -133,17 +143,21 @@ module _ (s : State) (p : ℕ) where
       let a : Bool = isOnly row (pendingOf p 1 (s .rows)) in
       let b : Bool = not (isWrite (rowOf s row .kind)) in
       let c : Bool = pairFits (s .accepted) (s .n) (gathered .best) in
-      let f : (a && b) ≡ true = and-left (a && b) c e in
-      (only-ok row _ (and-left a b f), not-true _ (and-right a b f), and-right (a && b) c e)
+      let d : Bool = eqb (rowOf s row .replied .query) 0 in
+      let g : (a && b && c) ≡ true = and-left (a && b && c) d e in
+      let f : (a && b) ≡ true = and-left (a && b) c g in
+      (only-ok row _ (and-left a b f), not-true _ (and-right a b f), and-right (a && b) c g, eqb-true _ _ (and-right (a && b && c) d e))
   phase-ok (Updating row sent) repliers e =
       let a : Bool = isOnly row (pendingOf p 1 (s .rows)) in
       let c : Bool = pairFits (s .accepted) (s .n) sent in
-      (only-ok row _ (and-left a c e), and-right a c e)
+      let d : Bool = isWrite (rowOf s row .kind) || enough s (rowOf s row .replied .query) in
+      let f : (a && c) ≡ true = and-left (a && c) d e in
+      (only-ok row _ (and-left a c f), and-right a c f, and-right (a && c) d e)
 
   ok-phase : (phase : Phase) (repliers : ℕ) → PhaseOk s p phase repliers → phaseFits s p phase repliers ≡ true
   ok-phase Idle repliers k = both (ok-empty _ (k .0)) (eq-eqb repliers 0 (k .1))
-  ok-phase (Querying row gathered) repliers k = both (both (ok-only row _ (k .0)) (ap not (k .1))) (k .2)
-  ok-phase (Updating row sent) repliers k = both (ok-only row _ (k .0)) (k .1)
+  ok-phase (Querying row gathered) repliers k = both (both (both (ok-only row _ (k .0)) (ap not (k .1))) (k .2)) (eq-eqb _ _ (k .3))
+  ok-phase (Updating row sent) repliers k = both (both (ok-only row _ (k .0)) (k .1)) (k .2)
 
 -- ---- a replica
 

@@ -9,6 +9,7 @@ use lib.ListN.{length, take, drop}
 use Rattle.words.specs.declared.Message.{Message}
 use Rattle.words.specs.declared.Body.the-variants.{Query}
 use Rattle.words.specs.Stamps.{startStamp}
+use Rattle.tables.specs.declared.Replied.{Replied}
 use Rattle.tables.specs.declared.Row.{Row}
 use Rattle.tables.specs.declared.Kind.the-variants.{Read}
 use Rattle.tables.specs.declared.Found.{Found}
@@ -25,6 +26,10 @@ emptyMessage =
       body = Query 0;
     }
 
+-- no phase has ended: nobody replied to one that has
+abbrev pub nobody : Replied
+nobody = record { query = 0; update = 0 }
+
 abbrev pub emptyRow : Row
 emptyRow =
     record {
@@ -35,6 +40,7 @@ emptyRow =
       answered = record { 0 = 0 };
       stamp = startStamp;
       value = pos 0;
+      replied = nobody;
     }
 
 -- the place of the first message with the number k, counted from i

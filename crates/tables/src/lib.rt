@@ -4,7 +4,7 @@ ghost use mathlib.Core.Path.{_≡_};
 ghost use Prim.Native.Nat.{_+_, _≤_, _<_};
 ghost use mathlib.Core.List.{_∷_, _++_};
 ghost use lib.ListN.{length, getD, set, take, drop, replicate};
-ghost use Rattle.tables.specs.Tables.{emptyMessage, emptyRow, seek, removed, following, copies, laidAt};
+ghost use Rattle.tables.specs.Tables.{emptyMessage, nobody, emptyRow, seek, removed, following, copies, laidAt};
 use words::Body;
 use words::Message;
 use words::Pid;
@@ -17,10 +17,19 @@ pub enum Kind {
     Write,
 }
 
+// Who replied: the processes whose replies ended the query phase, and those whose replies ended the update phase, a byte each (process i is
+// bit i). Nobody until that phase ends.
+pub struct Replied {
+    pub query: u8,
+    pub update: u8,
+}
+
+// Fields lie in memory as they are written: what is of one byte comes first, and a row has 32.
 pub struct Row {
     pub process: Pid,
     pub kind: Kind,
     pub register: u8,
+    pub replied: Replied,
     pub invoked: Time,
     pub answered: Time,
     pub stamp: Stamp,
@@ -46,6 +55,16 @@ pub fn empty_message() -> Message
     }
 }
 
+// No phase has ended: nobody replied to one that has.
+pub fn nobody_yet() -> Replied
+    ensures { λ r. ⌜ r ≡ nobody ⌝ }
+{
+    Replied {
+        query: 0,
+        update: 0,
+    }
+}
+
 // The row of an unused place.
 pub fn empty_row() -> Row
     ensures { λ r. ⌜ r ≡ emptyRow ⌝ }
@@ -61,6 +80,7 @@ pub fn empty_row() -> Row
             process: Pid(0),
         },
         value: 0,
+        replied: nobody_yet(),
     }
 }
 

@@ -6,6 +6,7 @@ use lib.IntN.{pos, negsuc}
 use Rattle.words.specs.Stamps.{stampOf}
 use Rattle.tables.specs.declared.Kind.the-variants.{Read, Write}
 use Rattle.tables.specs.declared.Row.{Row}
+use Rattle.tables.specs.Tables.{nobody}
 use Rattle.text.specs.Lines.{runText, procText, countText}
 use Rattle.text.specs.Printed.{decimal, signed, rowLine, orderLine, regLine, printedRefusal}
 
@@ -28,13 +29,44 @@ unfolding decimal
 run-line = refl
 
 write : Row
-write = record { process = record { 0 = 1 }; kind = Write; register = 1; invoked = record { 0 = 1 }; answered = record { 0 = 0 }; stamp = stampOf 1 1; value = pos 7 }
+write =
+    record {
+      process = record { 0 = 1 };
+      kind = Write;
+      register = 1;
+      invoked = record { 0 = 1 };
+      answered = record { 0 = 0 };
+      stamp = stampOf 1 1;
+      value = pos 7;
+      replied = nobody;
+    }
 
+-- processes 2 and 3 replied, twice
 read : Row
-read = record { process = record { 0 = 3 }; kind = Read; register = 1; invoked = record { 0 = 1 }; answered = record { 0 = 7 }; stamp = stampOf 1 1; value = pos 7 }
+read =
+    record {
+      process = record { 0 = 3 };
+      kind = Read;
+      register = 1;
+      invoked = record { 0 = 1 };
+      answered = record { 0 = 7 };
+      stamp = stampOf 1 1;
+      value = pos 7;
+      replied = record { query = 12; update = 12 };
+    }
 
 pending : Row
-pending = record { process = record { 0 = 3 }; kind = Read; register = 1; invoked = record { 0 = 1 }; answered = record { 0 = 0 }; stamp = stampOf 0 0; value = pos 0 }
+pending =
+    record {
+      process = record { 0 = 3 };
+      kind = Read;
+      register = 1;
+      invoked = record { 0 = 1 };
+      answered = record { 0 = 0 };
+      stamp = stampOf 0 0;
+      value = pos 0;
+      replied = nobody;
+    }
 
 -- op 1 1 w 1 1 - 1 1 7
 write-line : rowLine 1 write ≡ 111 ∷ 112 ∷ 32 ∷ 49 ∷ 32 ∷ 49 ∷ 32 ∷ 119 ∷ 32 ∷ 49 ∷ 32 ∷ 49 ∷ 32 ∷ 45 ∷ 32 ∷ 49 ∷ 32 ∷ 49 ∷ 32 ∷ 55 ∷ 10 ∷ []

@@ -1,4 +1,5 @@
 -- `decide::rows::completed_row` meets its contract: the arm says the kind, which picks the pair that is kept.
+use Prim.Native.Nat.{ℕ}
 use mathlib.Core.Path.{_≡_, sym, ap, _∙_}
 use mir.Facts.{toZ-ofZ}
 use mir.Syntax.{w64}
@@ -12,8 +13,8 @@ use Rattle.decide.proofs.rows.completed_row.Statement.{statement}
 use Rattle.decide.proofs.rows.completed_row.Tie as tie
 
 -- `completed`, by a kind
-abbrev by-kind : Row → Time → Pair → Kind → Row
-by-kind row time pair kind =
+abbrev by-kind : Row → Time → Pair → ℕ → Kind → Row
+by-kind row time pair who kind =
     record {
       process = row .process;
       kind = row .kind;
@@ -22,6 +23,7 @@ by-kind row time pair kind =
       answered = time;
       stamp = kept kind row pair .stamp;
       value = kept kind row pair .value;
+      replied = record { query = row .replied .query; update = who };
     }
 
 enum-told : tie.Need-enum-told
@@ -33,13 +35,13 @@ enum-told-2 c = search needs
 returns : tie.Need-returns
 returns c =
     let a = c .before .before .args in
-    sym (ap (by-kind (a .row) (a .time) (a .pair)) (c .enum-told .given .1))
+    sym (ap (by-kind (a .row) (a .time) (a .pair) (a .who)) (c .enum-told .given .1))
 
 returns-2 : tie.Need-returns-2
 returns-2 c =
     let a = c .before .before .before .before .args in
     let back = toZ-ofZ {w = w64} {z = a .pair .value} (record { sfits = search needs }) in
-    rw back (sym (ap (by-kind (a .row) (a .time) (a .pair)) (c .before .before .enum-told2 .given .1)))
+    rw back (sym (ap (by-kind (a .row) (a .time) (a .pair) (a .who)) (c .before .before .enum-told2 .given .1)))
 
 pub completed-row-spec : {M : Type 1} → statement M
 completed-row-spec = tie.close (tie.spec enum-told enum-told-2 returns returns-2)

@@ -14,6 +14,12 @@ empty-row-requires c κs = search needs
 enum-known-ended : tie.Need-enum-known-ended
 enum-known-ended c = search needs
 
+queried-row-requires : tie.Need-queried-row-requires
+queried-row-requires c κs = search needs
+
+enum-known-ended-2 : tie.Need-enum-known-ended-2
+enum-known-ended-2 c = search needs
+
 completed-row-requires : tie.Need-completed-row-requires
 completed-row-requires c κs = search needs
 
@@ -23,7 +29,12 @@ returns c = search needs
 returns-2 : tie.Need-returns-2
 returns-2 c =
     let a = c .before .before .before .before .args in
-    c .completed-row .ensures ∙ sym (ap (λ e. rowBy e (a .row)) (c .before .before .ended .given .1))
+    c .queried-row .ensures ∙ sym (ap (λ e. rowBy e (a .row)) (c .before .before .ended .given .1))
+
+returns-3 : tie.Need-returns-3
+returns-3 c =
+    let a = c .before .before .before .before .args in
+    c .completed-row .ensures ∙ sym (ap (λ e. rowBy e (a .row)) (c .before .before .ended2 .given .1))
 
 pub row-by-spec : {M : Type 1} → statement M
 row-by-spec =
@@ -32,6 +43,9 @@ row-by-spec =
     enum-told
     empty-row-requires
     enum-known-ended
+    queried-row-requires
+    enum-known-ended-2
     completed-row-requires
     returns
-    returns-2)
+    returns-2
+    returns-3)

@@ -27,6 +27,9 @@ is-one-requires-2 c κs = search needs
 pair-fits-requires-2 : tie.Need-pair-fits-requires-2
 pair-fits-requires-2 c κs = search needs
 
+is-enough-requires : tie.Need-is-enough-requires
+is-enough-requires c κs = search needs
+
 returns : tie.Need-returns
 returns c =
     let a = c .before .before .before .args in
@@ -34,13 +37,13 @@ returns c =
 
 returns-2 : tie.Need-returns-2
 returns-2 c =
-    let a = c .before .before .before .before .before .before .args in
-    rw (c .pair-fits .ensures, c .before .before .is-one .ensures) (sym (ap (λ (f : Phase). phaseJudged (limited (a .l)) (a .w) f (a .repliers)) (c .before .before .before .before .phase .given .1)))
+    let a = c .before .before .before .before .before .before .before .args in
+    rw (c .before .pair-fits .ensures, c .before .before .before .is-one .ensures) (sym (ap (λ (f : Phase). phaseJudged (limited (a .l)) (a .w) f (a .repliers)) (c .before .before .before .before .before .phase .given .1)))
 
 returns-3 : tie.Need-returns-3
 returns-3 c =
-    let a = c .before .before .before .before .before .args in
-    rw (c .pair-fits2 .ensures, c .before .is-one2 .ensures) (sym (ap (λ (f : Phase). phaseJudged (limited (a .l)) (a .w) f (a .repliers)) (c .before .before .before .phase2 .given .1)))
+    let a = c .before .before .before .before .before .before .before .args in
+    rw (c .before .is-enough .ensures, c .before .before .pair-fits2 .ensures, c .before .before .before .is-one2 .ensures) (sym (ap (λ (f : Phase). phaseJudged (limited (a .l)) (a .w) f (a .repliers)) (c .before .before .before .before .before .phase2 .given .1)))
 
 pub phase-fits-spec : {M : Type 1} → statement M
 phase-fits-spec =
@@ -53,6 +56,7 @@ phase-fits-spec =
     enum-known-phase-2
     is-one-requires-2
     pair-fits-requires-2
+    is-enough-requires
     returns
     returns-2
     returns-3)

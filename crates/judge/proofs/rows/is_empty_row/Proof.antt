@@ -14,8 +14,10 @@ is-zero-requires c κs = search needs
 
 returns : tie.Need-returns
 returns c =
-    let back = toZ-ofZ {w = w64} {z = c .before .before .before .before .before .before .before .before .before .args .r .value} (record { sfits = search needs }) in
-    rw (c .is-zero .ensures, c .before .before .before .before .before .before .before .is-write .ensures, back)
+    let kinds = c .before .before .before .before .before .before .before .before .before in
+    let entry = kinds .before .before in
+    let back = toZ-ofZ {w = w64} {z = entry .args .r .value} (record { sfits = entry .good .0 .1 .1 .1 .1 .1 .1 .1 .1 .1 .0 .1 }) in
+    rw (c .before .before .is-zero .ensures, kinds .is-write .ensures, back)
 
 pub is-empty-row-spec : {M : Type 1} → statement M
 is-empty-row-spec = tie.close (tie.spec is-write-requires is-zero-requires returns)

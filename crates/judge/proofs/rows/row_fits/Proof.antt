@@ -18,12 +18,20 @@ pair-fits-requires c κs = search needs
 is-write-requires : tie.Need-is-write-requires
 is-write-requires c κs = search needs
 
+query-fits-requires : tie.Need-query-fits-requires
+query-fits-requires c κs = search needs
+
+update-fits-requires : tie.Need-update-fits-requires
+update-fits-requires c κs = search needs
+
 returns : tie.Need-returns
 returns c =
-    let back = toZ-ofZ {w = w64} {z = c .before .before .before .before .before .before .before .before .before .before .before .args .r .value} (record { sfits = c .before .before .before .before .before .before .before .before .before .before .before .good .1 .0 .1 .1 .1 .1 .1 .1 .1 .1 .0 .1 }) in
-    rw (c .before .is-write .ensures, c .before .before .pair-fits .ensures, c .before .before .before .before .before .before .before .is-within2 .ensures, c .before .before .before .before .before .before .before .before .is-within .ensures, back)
+    let tests = c .before .before .before .before .before .before .before .before .before in
+    let entry = tests .before .before .before .before in
+    let back = toZ-ofZ {w = w64} {z = entry .args .r .value} (record { sfits = entry .good .1 .0 .1 .1 .1 .1 .1 .1 .1 .1 .1 .0 .1 }) in
+    rw (c .update-fits .ensures, c .before .query-fits .ensures, c .before .before .before .is-write .ensures, c .before .before .before .before .pair-fits .ensures, tests .is-within2 .ensures, tests .before .is-within .ensures, back)
 
 pub row-fits-spec : {M : Type 1} → statement M
 row-fits-spec =
     tie.close
-    (tie.spec is-within-requires is-within-requires-2 pair-fits-requires is-write-requires returns)
+    (tie.spec is-within-requires is-within-requires-2 pair-fits-requires is-write-requires query-fits-requires update-fits-requires returns)

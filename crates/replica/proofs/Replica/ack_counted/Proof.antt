@@ -24,6 +24,9 @@ add-t13 c = search needs
 move-to-requires : tie.Need-move-to-requires
 move-to-requires c κs = search needs
 
+conclude-requires : tie.Need-conclude-requires
+conclude-requires c κs = search needs
+
 move-to-requires-2 : tie.Need-move-to-requires-2
 move-to-requires-2 c κs = search needs
 
@@ -33,9 +36,10 @@ accept-requires c κs = search needs
 returns : tie.Need-returns
 unfolding ackCounted
 returns c =
-    let a = c .before .before .before .before .before .before .args in
-    let m : leb (majorityOf (a .n)) (counted (joined (a .self .repliers) (a .from .0))) ≡ true = ap (λ s. leb (majorityOf (a .n)) (counted s)) (sym (c .before .before .before .before .with .ensures)) ∙ sym (c .before .before .before .is-majority .ensures) ∙ c .before .before .if1 .taken in
-    rw (c .move-to .ensures, c .before .before .before .before .before .after-receiving .ensures) (picks-first _ _ _ m)
+    let t = c .before .before .before in
+    let a = t .before .before .before .before .args in
+    let m : leb (majorityOf (a .n)) (counted (joined (a .self .repliers) (a .from .0))) ≡ true = ap (λ s. leb (majorityOf (a .n)) (counted s)) (sym (t .before .before .with .ensures)) ∙ sym (t .before .is-majority .ensures) ∙ t .if1 .taken in
+    rw (c .conclude .ensures, c .before .move-to .ensures, t .before .before .with .ensures, t .before .before .before .after-receiving .ensures) (picks-first _ _ _ m)
 
 returns-2 : tie.Need-returns-2
 unfolding ackCounted
@@ -53,6 +57,7 @@ ack-counted-spec =
     is-majority-requires
     add-t13
     move-to-requires
+    conclude-requires
     move-to-requires-2
     accept-requires
     returns

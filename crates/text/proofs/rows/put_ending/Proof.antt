@@ -40,7 +40,7 @@ returns-2 c =
     let s = w1 .before .before .before .before .before .before in
     let r = s .args .row in
     let t = w1 .before .before .before in
-    let passed = passed-pair (r .stamp) (r .value) (record { sfits = w1 .before .struct-told .given .1 .1 .1 .1 .1 .1 .0 .1 }) in
+    let passed = passed-pair (r .stamp) (r .value) (record { sfits = w1 .before .struct-told .given .1 .1 .1 .1 .1 .1 .1 .0 .1 }) in
     asText (passed ∙ pair-is (r .kind) (r .answered .0) r (sym (t .before .is-blank .ensures) ∙ t .if1 .left)) (omega arith) (w1 .put-pair .ensures)
 
 pub put-ending-spec : {M : Type 1} → statement M
