@@ -12,7 +12,7 @@ use borrow.Author.Tests.{leb-true, eqb-true, le-leb}
 use Rattle.words.specs.declared.Body.{Body}
 use Rattle.words.specs.declared.Body.the-variants.{Query, Response, Update, Ack}
 use Rattle.words.specs.declared.Message.{Message}
-use Rattle.words.specs.Quorum.{counted, majorityOf}
+use Rattle.words.specs.Quorum.{counted}
 use Rattle.words.specs.Ranges.{within, isZero, repliersFit}
 use Rattle.words.specs.RangeLaws.{and-left, and-right, within-most, within-least}
 use Rattle.replica.specs.declared.Phase.{Phase}
@@ -23,6 +23,8 @@ use Rattle.tables.specs.declared.Kind.the-variants.{Read, Write}
 use Rattle.tables.specs.declared.Row.{Row}
 use Rattle.tables.specs.Tables.{emptyMessage, emptyRow}
 use Rattle.state.specs.declared.Bench.{Bench}
+use Rattle.state.specs.EveryLaws.{every-at}
+use Rattle.state.specs.Needed.{needed}
 use Rattle.state.specs.State.{State, freshReplica, replicaOf, view, laidMessages, laidRows}
 use Rattle.state.specs.Tabled.{tabled, lengthsFit, isEmptyBody, isEmptyMessage, isEmptyRow, benchOf}
 use Rattle.state.specs.WellFormed.{every, wellFormed, countsFit, flightFits, historyFits, replicasFit, messageFits, rising, eachFits, replicaFits, phaseFits, pendingOf, isOnly, isEmpty, isFresh, isWrite, pairsFit, bodyFits}
@@ -49,11 +51,6 @@ all6 a b c d f g e =
     let (x₀, x₁, x₂, x₃, x₄) = all5 a b c d f l in (x₀, x₁, x₂, x₃, x₄, r)
 
 -- ---- lists of which each passes a test
-
-every-at : {A : Type 0} (p : A → Bool) (xs : List A) (i : ℕ) (d : A) → every p xs ≡ true → i < length xs → p (getD xs i d) ≡ true
-every-at p [] i d e l = absurd (not-suc-le-zero l)
-every-at p (x ∷ xs) zero d e l = and-left (p x) (every p xs) e
-every-at p (x ∷ xs) (suc i) d e l = every-at p xs i d (and-right (p x) (every p xs) e) (le-of-suc-le-suc l)
 
 empties : {A : Type 0} (p : A → Bool) (d : A) → ((x : A) → p x ≡ true → x ≡ d) → (xs : List A) → every p xs ≡ true → xs ≡ replicate (length xs) d
 empties p d is [] e = refl
@@ -149,7 +146,7 @@ phase-points s p (Updating number sent) repliers e = only-within p number (s .ro
 replica-points : (s : State) (p : ℕ) (r : Replica) → replicaFits s p r ≡ true → Points (s .rows) (r .phase)
 replica-points s p r e = phase-points s p (r .phase) (r .repliers) (and-right
     (leb (r .clock .0) (s .accepted) && leb (r .rid .0) (2 * s .accepted) && eqb (length (r .pairs)) 16 && pairsFit s (s .m) (r .pairs)
-    && repliersFit (s .n) (r .repliers) && ltb (counted (r .repliers)) (majorityOf (s .n)))
+    && repliersFit (s .n) (r .repliers) && ltb (counted (r .repliers)) (needed s (r .phase)))
     (phaseFits s p (r .phase) (r .repliers)) e)
 
 each-points : (s : State) (p : ℕ) (rs : List Replica) (i : ℕ) → eachFits s p rs ≡ true → i < length rs → p + i ≤ s .n → Points (s .rows) (getD rs i freshReplica .phase)
@@ -211,7 +208,7 @@ module _ (s : State) (w : wellFormed s ≡ true) (lf : length (s .flight) ≤ 51
 
   fits-at : (i : ℕ) → i < length (s .flight) → messageFits s (getD (s .flight) i emptyMessage) ≡ true
   unfolding flightFits
-  fits-at i l = every-at (messageFits s) (s .flight) i emptyMessage (and-left (every (messageFits s) (s .flight)) (rising 0 (s .sent) (s .flight)) (parts .1)) l
+  fits-at i l = every-at (messageFits s) (s .flight) emptyMessage i (and-left (every (messageFits s) (s .flight)) (rising 0 (s .sent) (s .flight)) (parts .1)) l
 
   ends : (m : Message) → messageFits s m ≡ true → (within (m .from .0) (s .n) ≡ true) × (within (m .to .0) (s .n) ≡ true)
   ends m e = let (a, b, c, d, f) = all5 (within (m .from .0) (s .n)) (within (m .to .0) (s .n)) (leb (m .time .0) (s .accepted)) (leb (m .rid .0) (2 * s .accepted)) (bodyFits s (m .body)) e in (a, b)

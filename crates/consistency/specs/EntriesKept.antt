@@ -8,11 +8,13 @@ use lib.ListN.{length, getD, set, length-append, length-set, List·getD-append}
 use lib.Seq.{getD-append-seam, getD-set-same, getD-set-other}
 use Rattle.words.specs.declared.Message.{Message}
 use Rattle.words.specs.declared.Pair.{Pair}
-use Rattle.words.specs.Quorum.{counted, majorityOf}
+use Rattle.words.specs.Quorum.{counted}
 use Rattle.tables.specs.declared.Kind.{Kind}
 use Rattle.tables.specs.declared.Kind.the-variants.{Read, Write}
 use Rattle.tables.specs.declared.Row.{Row}
 use Rattle.tables.specs.Tables.{emptyRow}
+use Rattle.replica.specs.declared.Phase.the-variants.{Updating}
+use Rattle.state.specs.Needed.{needed}
 use Rattle.state.specs.State.{State, rowOf}
 use Rattle.state.specs.Step.{kept as keptPair, completed}
 use Rattle.consistency.specs.Held.{Held, clockAt}
@@ -59,7 +61,7 @@ module _ {s t : State} {held after : Held} (sound : Sound s held) (kept : Kept s
   -- ---- a row that was completed
 
   completed-entered : (message : Message) (i : ℕ) (sent : Pair) → Acks s message i sent → clockAt t (message .to .0) ≡ clockThen s message
-      → majorityOf (s .n) ≤ counted (repliersThen s message)
+      → needed s (Updating i sent) ≤ counted (repliersThen s message)
       → i - 1 < length (s .rows)
       → Entered t after (completed (rowOf s i) (record { 0 = clockThen s message }) sent 0)
   completed-entered message i sent a clock enough l =

@@ -12,7 +12,6 @@ use lib.IntN.{pos}
 use lib.ListN.{length, getD}
 use Rattle.words.specs.declared.Stamp.{Stamp}
 use Rattle.words.specs.declared.Pair.{Pair}
-use Rattle.words.specs.QuorumLaws.{majorities-meet}
 use Rattle.words.specs.StampLaws.{AtMost, atMost-transitive, below-time, three-ways}
 use Rattle.placing.specs.Operation.{Kind, isWrite, isSome, listed}
 use Rattle.placing.specs.OneOrder.{earlier}
@@ -26,6 +25,7 @@ use Rattle.tables.specs.declared.Row.{Row}
 use Rattle.tables.specs.Tables.{emptyRow}
 use Rattle.state.specs.State.{State}
 use Rattle.state.specs.Reached.{Reached}
+use Rattle.moves.specs.NeededLaws.{answers-meet}
 use Rattle.order.specs.Operations.{kindOf, answeredOf}
 use Rattle.consistency.specs.Operations.{operationsOf}
 use Rattle.consistency.specs.Unnamed.{operations-unnamed}
@@ -62,8 +62,8 @@ module _ {s : State} {held : Held} (sound : Sound s held) where
       let told = done-a .told in
       let asked = done-b .asked e in
       let few = sound .sized .few in
-      let (k, first, last, in-told, in-asked) =
-      majorities-meet (s .n) (told .set) (asked .set) few (told .inside) (asked .inside) (told .enough) (asked .enough) in
+      let (k, first, last, in-asked, in-told) =
+      answers-meet s few (asked .set) (told .set) (asked .inside) (told .inside) (asked .enough) (told .enough) in
       atMost-transitive (a .stamp) (held k (a .answered .0) (b .register)) (b .stamp) (rw x at (told .all k in-told))
       (atMost-transitive (held k (a .answered .0) (b .register)) (held k (b .invoked .0) (b .register)) (b .stamp)
       (sound .recalls .rising k (b .register) (a .answered .0) (b .invoked .0) first l)

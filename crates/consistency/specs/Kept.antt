@@ -19,6 +19,7 @@ use Rattle.replica.specs.declared.Replica.{Replica}
 use Rattle.tables.specs.declared.Kind.the-variants.{Write}
 use Rattle.tables.specs.declared.Row.{Row}
 use Rattle.tables.specs.Tables.{emptyRow}
+use Rattle.state.specs.NeededLaws.{responses-same, acks-same}
 use Rattle.state.specs.State.{State, replicaOf, rowOf}
 use Rattle.consistency.specs.Held.{Held, Recalls, clockAt}
 use Rattle.consistency.specs.Sound.{Begun, From, Quorum, Below, Above, Stores, Serves, Asking, Telling, IsRow, Waits}
@@ -67,12 +68,13 @@ module _ {s t : State} {held after : Held} (kept : Kept s held t after) where
   above-kept r stamp time k first a =
       atMost-transitive stamp (held k time (r .register)) (after k time (r .register)) a (kept .higher k time (r .register) first)
 
-  pub quorum-kept : {Has HasThen : ℕ → Type 0} → ((k : ℕ) → 1 ≤ k → Has k → HasThen k) → Quorum (s .n) Has → Quorum (t .n) HasThen
-  quorum-kept f q =
+  pub quorum-kept : {Has HasThen : ℕ → Type 0} {least leastThen : ℕ} → leastThen ≡ least → ((k : ℕ) → 1 ≤ k → Has k → HasThen k)
+      → Quorum (s .n) least Has → Quorum (t .n) leastThen HasThen
+  quorum-kept e f q =
       record {
         set = q .set;
         inside = rw (kept .processes) (q .inside);
-        enough = rw (kept .processes) (q .enough);
+        enough = omega (arith, e, q .enough);
         all = λ k m. f k (inside-members (s .n) (q .set) (q .inside) k m .0) (q .all k m);
       }
 
@@ -130,7 +132,7 @@ module _ {s t : State} {held after : Held} (kept : Kept s held t after) where
             (above-kept r (sent .stamp) (clockAt s q) k least (old .counted k m))
             (kept .recalls .rising k (r .register) (clockAt s q) (clockAt t q) least (kept .clock q first));
         written = old .written;
-        asked = λ e. quorum-kept (below-kept r (sent .stamp)) (old .asked e);
+        asked = λ e. quorum-kept (responses-same s t (kept .processes)) (below-kept r (sent .stamp)) (old .asked e);
       }
 
   -- ---- a message that was in flight before
@@ -209,8 +211,8 @@ module _ {s t : State} {held after : Held} (kept : Kept s held t after) where
         later = old .later;
         past = omega (arith, old .past);
         early = old .early;
-        told = quorum-kept (above-kept r (r .stamp) (r .answered .0)) (old .told);
-        asked = λ e. quorum-kept (below-kept r (r .stamp)) (old .asked e);
+        told = quorum-kept (acks-same s t (kept .processes)) (above-kept r (r .stamp) (r .answered .0)) (old .told);
+        asked = λ e. quorum-kept (responses-same s t (kept .processes)) (below-kept r (r .stamp)) (old .asked e);
         source = λ e. from-kept (r .register) _ (old .source e);
       }
 

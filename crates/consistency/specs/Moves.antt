@@ -10,7 +10,7 @@ use lib.ListN.{length, set}
 use Rattle.words.specs.declared.Body.the-variants.{Query, Response, Update, Ack}
 use Rattle.words.specs.declared.Message.{Message}
 use Rattle.words.specs.declared.Pair.{Pair}
-use Rattle.words.specs.Quorum.{joined, counted, majorityOf}
+use Rattle.words.specs.Quorum.{joined, counted}
 use Rattle.words.specs.Stamps.{stampOf, newer}
 use Rattle.replica.specs.declared.Gathered.{Gathered}
 use Rattle.replica.specs.declared.Letter.{Letter}
@@ -23,6 +23,7 @@ use Rattle.replica.specs.Clock.{after}
 use Rattle.replica.specs.Gathering.{nothingGathered, gatheredWith}
 use Rattle.replica.specs.Handlers.{became, stored, broadcastOf, replyOf}
 use Rattle.tables.specs.declared.Row.{Row}
+use Rattle.state.specs.Needed.{needed}
 use Rattle.state.specs.State.{State, replicaOf, rowOf}
 use Rattle.state.specs.Step.{readRow, writeRow, completed}
 
@@ -158,7 +159,7 @@ pub data Move (s t : State) : Type 0 where
       → Turn s t (message .to .0) (counting s message (Querying i (gatheredWith gathered pair))) Nothing (s .rows)
       → Move s t
   chooses : (message : Message) (i : ℕ) (gathered : Gathered) (pair : Pair) → Responds s message i gathered pair
-      → majorityOf (s .n) ≤ counted (repliersThen s message)
+      → needed s (Querying i gathered) ≤ counted (repliersThen s message)
       → Turn s t (message .to .0) (ending s message (Updating i (newer (gathered .best) pair)))
       (broadcastOf (clockThen s message) (reached s message .rid .0 + 1) (Update (rowOf s i .register) (newer (gathered .best) pair)))
       (s .rows)
@@ -167,7 +168,7 @@ pub data Move (s t : State) : Type 0 where
       → Turn s t (message .to .0) (counting s message (Updating i sent)) Nothing (s .rows)
       → Move s t
   completes : (message : Message) (i : ℕ) (sent : Pair) → Acks s message i sent
-      → majorityOf (s .n) ≤ counted (repliersThen s message)
+      → needed s (Updating i sent) ≤ counted (repliersThen s message)
       → Turn s t (message .to .0) (ending s message Idle) Nothing
       (set (s .rows) (i - 1) (completed (rowOf s i) (record { 0 = clockThen s message }) sent 0))
       → Move s t

@@ -11,7 +11,7 @@ use Rattle.words.specs.declared.Body.the-variants.{Query, Response, Update, Ack
 use Rattle.words.specs.declared.Message.{Message}
 use Rattle.words.specs.declared.Pair.{Pair}
 use Rattle.words.specs.declared.Stamp.{Stamp}
-use Rattle.words.specs.Quorum.{member, counted, majorityOf}
+use Rattle.words.specs.Quorum.{member, counted}
 use Rattle.words.specs.QuorumLaws.{Inside}
 use Rattle.words.specs.Stamps.{stampOf, startPair}
 use Rattle.words.specs.StampLaws.{AtMost}
@@ -21,6 +21,7 @@ use Rattle.replica.specs.Numbers.{pointed}
 use Rattle.tables.specs.declared.Kind.the-variants.{Read, Write}
 use Rattle.tables.specs.declared.Row.{Row}
 use Rattle.tables.specs.Tables.{emptyRow}
+use Rattle.state.specs.Needed.{responsesNeeded, acksNeeded}
 use Rattle.state.specs.State.{State, replicaOf, rowOf}
 use Rattle.moves.specs.Stages.{isReply}
 use Rattle.consistency.specs.Held.{Held, Recalls, clockAt}
@@ -42,11 +43,11 @@ pairOf r = record { stamp = r .stamp; value = r .value }
 
 -- ---- what repliers are good for
 
--- a set that may end a phase, all of whose processes have something
-pub record Quorum (n : ℕ) (Has : ℕ → Type 0) : Type 0 where
+-- a set of 1..n with at least so many processes, all of which have something
+pub record Quorum (n least : ℕ) (Has : ℕ → Type 0) : Type 0 where
   pub set : ℕ
   pub inside : Inside n set
-  pub enough : majorityOf n ≤ counted set
+  pub enough : least ≤ counted set
   pub all : (k : ℕ) → member set k ≡ true → Has k
 
 -- k's clock has passed r's invocation, when it held no stamp above this one for r's register
@@ -88,7 +89,7 @@ pub record Telling (s : State) (held : Held) (q : ℕ) (r : Row) (sent : Pair) (
   pub serves : Serves s q r sent
   pub counted : (k : ℕ) → member repliers k ≡ true → Above held r (sent .stamp) (clockAt s q) k
   pub written : r .kind ≡ Write → r .stamp ≡ sent .stamp
-  pub asked : r .kind ≡ Read → Quorum (s .n) (Below s held r (sent .stamp))
+  pub asked : r .kind ≡ Read → Quorum (s .n) (responsesNeeded s) (Below s held r (sent .stamp))
 
 abbrev pub IsRow : State → ℕ → Type 0
 IsRow s i = (1 ≤ i) × (i ≤ length (s .rows))
@@ -169,8 +170,8 @@ pub record Done (s : State) (held : Held) (r : Row) : Type 0 where
   pub later : r .invoked .0 < r .answered .0
   pub past : r .answered .0 ≤ clockAt s (r .process .0)
   pub early : r .stamp .time .0 < r .answered .0
-  pub told : Quorum (s .n) (Above held r (r .stamp) (r .answered .0))
-  pub asked : r .kind ≡ Read → Quorum (s .n) (Below s held r (r .stamp))
+  pub told : Quorum (s .n) (acksNeeded s) (Above held r (r .stamp) (r .answered .0))
+  pub asked : r .kind ≡ Read → Quorum (s .n) (responsesNeeded s) (Below s held r (r .stamp))
   pub source : r .kind ≡ Read → From (s .rows) (r .register) (pairOf r)
 
 pub record Entered (s : State) (held : Held) (r : Row) : Type 0 where

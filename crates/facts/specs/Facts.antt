@@ -122,7 +122,7 @@ P10 =
     record {
       fact = "P10 N=7: the deciding response is accepted with 506 in flight, refused by 15 with 507";
       says =
-          (makesQueryMajority 7 asking fourth ≡ true)
+          (makesQueryMajority (deciding 506) asking fourth ≡ true)
           × (wellFormed (deciding 506) ≡ true)
           × (length (deciding 506 .flight) ≡ 506)
           × (step (deciding 506) (Deliver 1) .refusal ≡ 0)

@@ -7,13 +7,14 @@ use lib.ListN.{length, getD, set, replicate}
 use Rattle.words.specs.declared.Message.{Message}
 use Rattle.words.specs.declared.Pair.{Pair}
 use Rattle.words.specs.Limits.{mostEvents, mostFlight, mostRows}
-use Rattle.words.specs.Quorum.{counted, majorityOf}
+use Rattle.words.specs.Quorum.{counted}
 use Rattle.words.specs.Ranges.{within, pairFits, repliersFit}
 use Rattle.replica.specs.declared.Phase.{Phase}
 use Rattle.replica.specs.declared.Phase.the-variants.{Idle, Querying, Updating}
 use Rattle.replica.specs.declared.Replica.{Replica}
 use Rattle.tables.specs.declared.Row.{Row}
 use Rattle.state.specs.declared.Bench.{Bench}
+use Rattle.state.specs.Needed.{responsesNeeded, needed}
 use Rattle.state.specs.State.{State}
 use Rattle.state.specs.WellFormed.{messageFits, isWrite, enough, rowFits, isStart, pairsFit, isFresh}
 use Rattle.state.specs.Tabled.{isEmptyMessage, isEmptyRow}
@@ -114,12 +115,12 @@ phaseJudged s w Idle repliers = not (w .some) && eqb repliers 0
 phaseJudged s w (Querying row gathered) repliers =
     isOne row w && not (w .write) && pairFits (s .accepted) (s .n) (gathered .best) && eqb (w .query) 0
 phaseJudged s w (Updating row sent) repliers =
-    isOne row w && pairFits (s .accepted) (s .n) sent && (w .write || enough s (w .query))
+    isOne row w && pairFits (s .accepted) (s .n) sent && (w .write || enough s (responsesNeeded s) (w .query))
 
 abbrev pub replicaJudged : State → Waiting → Replica → Bool
 replicaJudged s w r =
     leb (r .clock .0) (s .accepted) && leb (r .rid .0) (2 * s .accepted) && storedFit s (s .m) (r .pairs)
-    && repliersFit (s .n) (r .repliers) && ltb (counted (r .repliers)) (majorityOf (s .n)) && phaseJudged s w (r .phase) (r .repliers)
+    && repliersFit (s .n) (r .repliers) && ltb (counted (r .repliers)) (needed s (r .phase)) && phaseJudged s w (r .phase) (r .repliers)
 
 abbrev pub processJudged : State → ℕ → Waiting → Replica → Bool
 processJudged s p w r = cond (leb p (s .n)) (replicaJudged s w r) (isFresh r)

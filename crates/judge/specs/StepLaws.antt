@@ -13,6 +13,7 @@ use Rattle.words.specs.RangeLaws.{and-left, and-right}
 use Rattle.replica.specs.declared.Replica.{Replica}
 use Rattle.replica.specs.Handlers.{isIdle}
 use Rattle.tables.specs.declared.Row.{Row}
+use Rattle.state.specs.Needed.{responsesNeeded, acksNeeded}
 use Rattle.state.specs.State.{State}
 use Rattle.state.specs.WellFormed.{every, messageFits, isWrite, enough, queryFits, updateFits, rowFits, isStart, isFresh}
 use Rattle.state.specs.Tabled.{isEmptyMessage, isEmptyRow}
@@ -66,20 +67,20 @@ row-used s place at r t ws h e f = rw (ne-eqb (at .left) 0 h, e, f)
 pub query-write : (s : State) (r : Row) → isWrite (r .kind) ≡ true → eqb (r .replied .query) 0 ≡ queryFits s r
 query-write s r h =
     sym
-    (ap (λ (b : Bool). cond b (eqb (r .replied .query) 0) (enough s (r .replied .query) || (eqb (r .answered .0) 0 && eqb (r .replied .query) 0))) h)
+    (ap (λ (b : Bool). cond b (eqb (r .replied .query) 0) (enough s (responsesNeeded s) (r .replied .query) || (eqb (r .answered .0) 0 && eqb (r .replied .query) 0))) h)
 
-pub query-read : (s : State) (r : Row) (t : Bool) → isWrite (r .kind) ≡ false → t ≡ enough s (r .replied .query)
+pub query-read : (s : State) (r : Row) (t : Bool) → isWrite (r .kind) ≡ false → t ≡ enough s (responsesNeeded s) (r .replied .query)
     → (t || (eqb (r .answered .0) 0 && eqb (r .replied .query) 0)) ≡ queryFits s r
 query-read s r t h e =
     ap (λ (b : Bool). b || (eqb (r .answered .0) 0 && eqb (r .replied .query) 0)) e
     ∙ sym
-    (ap (λ (b : Bool). cond b (eqb (r .replied .query) 0) (enough s (r .replied .query) || (eqb (r .answered .0) 0 && eqb (r .replied .query) 0))) h)
+    (ap (λ (b : Bool). cond b (eqb (r .replied .query) 0) (enough s (responsesNeeded s) (r .replied .query) || (eqb (r .answered .0) 0 && eqb (r .replied .query) 0))) h)
 
 pub update-pending : (s : State) (r : Row) → r .answered .0 ≡ 0 → eqb (r .replied .update) 0 ≡ updateFits s r
-update-pending s r h = sym (ap (λ (b : Bool). cond b (eqb (r .replied .update) 0) (enough s (r .replied .update))) (eq-eqb (r .answered .0) 0 h))
+update-pending s r h = sym (ap (λ (b : Bool). cond b (eqb (r .replied .update) 0) (enough s (acksNeeded s) (r .replied .update))) (eq-eqb (r .answered .0) 0 h))
 
-pub update-done : (s : State) (r : Row) (t : Bool) → (r .answered .0 ≡ 0 → ⊥) → t ≡ enough s (r .replied .update) → t ≡ updateFits s r
-update-done s r t h e = e ∙ sym (ap (λ (b : Bool). cond b (eqb (r .replied .update) 0) (enough s (r .replied .update))) (ne-eqb (r .answered .0) 0 h))
+pub update-done : (s : State) (r : Row) (t : Bool) → (r .answered .0 ≡ 0 → ⊥) → t ≡ enough s (acksNeeded s) (r .replied .update) → t ≡ updateFits s r
+update-done s r t h e = e ∙ sym (ap (λ (b : Bool). cond b (eqb (r .replied .update) 0) (enough s (acksNeeded s) (r .replied .update))) (ne-eqb (r .answered .0) 0 h))
 
 -- ---- replicas
 

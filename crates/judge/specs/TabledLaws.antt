@@ -12,13 +12,15 @@ use Rattle.words.specs.declared.Body.{Body}
 use Rattle.words.specs.declared.Body.the-variants.{Query, Response, Update, Ack}
 use Rattle.words.specs.declared.Message.{Message}
 use Rattle.words.specs.declared.Pair.{Pair}
-use Rattle.words.specs.Quorum.{counted, majorityOf}
+use Rattle.words.specs.Quorum.{counted}
 use Rattle.words.specs.Ranges.{pairFits}
 use Rattle.replica.specs.declared.Phase.{Phase}
 use Rattle.replica.specs.declared.Phase.the-variants.{Idle, Querying, Updating}
 use Rattle.replica.specs.declared.Replica.{Replica}
 use Rattle.tables.specs.declared.Row.{Row}
 use Rattle.state.specs.declared.Bench.{Bench}
+use Rattle.state.specs.Needed.{responsesNeeded}
+use Rattle.state.specs.NeededLaws.{needed-same}
 use Rattle.state.specs.State.{State, view, rowOf}
 use Rattle.state.specs.WellFormed.{every, countsFit, bodyFits, messageFits, rising, flightFits, isWrite, enough, rowFits, historyFits}
 use Rattle.state.specs.WellFormed.{pendingOf, isOnly, phaseFits, pairsFit, replicaFits, eachFits, replicasFit, wellFormed}
@@ -82,10 +84,10 @@ phase-same s p (Updating row sent) repliers =
     seen = waits p 0 noWaiting (s .rows)
 
     ended : Bool → ℕ → Bool
-    ended write query = write || enough s query
+    ended write query = write || enough s (responsesNeeded s) query
 
 replica-same : (s : State) (p : ℕ) (r : Replica) → replicaJudged (lim s) (waits p 0 noWaiting (s .rows)) r ≡ replicaFits s p r
-replica-same s p r = rw (pairs-same s (s .m) (r .pairs), phase-same s p (r .phase) (r .repliers)) (simp and-assoc)
+replica-same s p r = rw (pairs-same s (s .m) (r .pairs), needed-same s (lim s) refl (r .phase), phase-same s p (r .phase) (r .repliers)) (simp and-assoc)
 
 each-same : (s : State) (ws : List Waiting) (p : ℕ) (rs : List Replica) → ((k : ℕ) → k < 7 → getD ws k noWaiting ≡ waits (suc k) 0 noWaiting (s .rows)) → 1 ≤ p → p + length rs ≤ 8
     → eachJudged (lim s) ws p rs ≡ eachFits s p rs

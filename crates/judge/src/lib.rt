@@ -14,6 +14,7 @@ use words::Message;
 
 mod counts;
 mod messages;
+mod needed;
 mod replicas;
 mod replied;
 mod rows;

@@ -16,7 +16,8 @@ use crate::Limits;
 use crate::RowScan;
 use crate::Waiting;
 use crate::counts;
-use crate::replied::is_enough;
+use crate::needed::needed_in;
+use crate::replied::has_queried;
 use crate::rows::is_zero;
 use replica::Phase;
 use replica::Replica;
@@ -24,7 +25,6 @@ use replica::phases::is_idle;
 use state::Bench;
 use words::Pair;
 use words::limits::PROCESSES;
-use words::quorum::majority;
 use words::quorum::size;
 use words::ranges::pair_fits;
 use words::ranges::repliers_fit;
@@ -81,7 +81,7 @@ fn phase_fits(l: Limits, w: Waiting, phase: Phase, repliers: u8) -> bool
             is_one(w, row) & !w.write & pair_fits(gathered.best, l.accepted, l.n) & (w.query == 0)
         }
         Phase::Updating(row, sent) => {
-            is_one(w, row) & pair_fits(sent, l.accepted, l.n) & (w.write | is_enough(l, w.query))
+            is_one(w, row) & pair_fits(sent, l.accepted, l.n) & (w.write | has_queried(l, w.query))
         }
     }
 }
@@ -97,7 +97,7 @@ fn replica_fits(l: Limits, w: Waiting, r: Replica) -> bool
         & (r.rid.0 as u64 <= 2 * (l.accepted as u64))
         & stored_fit(l, l.m, pairs)
         & repliers_fit(l.n, repliers)
-        & (size(repliers) < majority(l.n) as u32)
+        & (size(repliers) < needed_in(l, phase) as u32)
         & phase_fits(l, w, phase, repliers)
 }
 

@@ -29,7 +29,7 @@ use Rattle.state.specs.State.{State, rowOf}
 use Rattle.state.specs.Step.{askedRegister}
 use Rattle.state.specs.FollowsLaws.{either-way}
 use Rattle.state.specs.Accepted.{messageAt, recipientAt, plainBy, plain}
-use Rattle.moves.specs.Needed.{needed}
+use Rattle.state.specs.Needed.{needed}
 use Rattle.moves.specs.Stages.{Stage, isReply, stageOf, stageFor}
 use Rattle.moves.specs.Move.{Responds, Acks, Discarded, clockThen, repliersThen, hearing, counting, ending, replying, telling}
 

@@ -27,7 +27,7 @@ use Rattle.moves.specs.Free.{FreelyReached}
 use Rattle.moves.specs.FreeLaws.{freely-kept, reached-freely}
 use Rattle.moves.specs.Lists.{one, all-at, countIf}
 use Rattle.moves.specs.Move.{Move}
-use Rattle.moves.specs.Needed.{needed}
+use Rattle.state.specs.Needed.{needed}
 use Rattle.moves.specs.OfLaws.{of-asker, of-asked, of-rid, request-asker, request-asked, reply-asker, reply-asked}
 use Rattle.moves.specs.Placed.{Placed}
 use Rattle.moves.specs.PlacedLaws.{freely-placed}

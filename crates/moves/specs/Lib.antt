@@ -1,6 +1,5 @@
 -- What a reader has to believe
 pub mod Stages
-pub mod Needed
 pub mod Move
 pub mod Free
 pub mod RequestNumbers

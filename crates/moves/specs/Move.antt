@@ -32,7 +32,7 @@ use Rattle.state.specs.State.{State, replicaOf, rowOf}
 use Rattle.state.specs.Step.{readRow, writeRow, queriedRow, completed, moved, withoutMessage}
 use Rattle.state.specs.Accepted.{messageAt, recipientAt}
 use Rattle.state.specs.PairLaws.{Within}
-use Rattle.moves.specs.Needed.{needed}
+use Rattle.state.specs.Needed.{needed}
 use Rattle.moves.specs.Stages.{isReply, stageOf, stageFor}
 
 -- ---- an operation begins: its process takes the next clock and the next request number, and sends its request to all

@@ -26,7 +26,7 @@ use Rattle.state.specs.State.{State, replicaOf, rowOf}
 use Rattle.state.specs.Step.{moved, answeredRows, step}
 use Rattle.state.specs.Accepted.{messageAt, recipientAt, deliverNext, Invoked}
 use Rattle.state.specs.Accepted.{read-accepted, write-accepted, deliver-accepted, crash-accepted, lose-accepted}
-use Rattle.moves.specs.Needed.{needed}
+use Rattle.state.specs.Needed.{needed}
 use Rattle.moves.specs.Stages.{isReply, stageOf, stageFor}
 use Rattle.moves.specs.Move.{Begins, Delivers, Responds, Acks, Discarded, clockThen, repliersThen, ending, telling, Move}
 use Rattle.moves.specs.Move.Move.{reads, writes, responds, stores, discards, counts, chooses, gathers, completes, crashes, loses}

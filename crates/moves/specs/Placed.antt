@@ -11,7 +11,7 @@ use Rattle.replica.specs.declared.Replica.{Replica}
 use Rattle.state.specs.State.{State, replicaOf}
 use Rattle.state.specs.PairLaws.{Within}
 use Rattle.moves.specs.Lists.{All}
-use Rattle.moves.specs.Needed.{needed}
+use Rattle.state.specs.Needed.{needed}
 
 pub record Ends (n : ℕ) (m : Message) : Type 0 where
   pub sender : Within (m .from .0) n

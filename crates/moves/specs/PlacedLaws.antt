@@ -11,13 +11,13 @@ use Rattle.words.specs.declared.Body.{Body}
 use Rattle.words.specs.declared.Body.the-variants.{Response, Ack}
 use Rattle.words.specs.declared.Message.{Message}
 use Rattle.words.specs.Quorum.{counted}
-use Rattle.words.specs.QuorumLaws.{Inside, inside-empty, joined-inside, counted-empty}
+use Rattle.words.specs.QuorumLaws.{Inside, inside-empty, joined-inside}
 use Rattle.words.specs.Ranges.{within}
 use Rattle.words.specs.RangeLaws.{and-left, and-right}
 use Rattle.words.specs.Stamps.{newer}
 use Rattle.replica.specs.declared.Ended.the-variants.{Pending}
 use Rattle.replica.specs.declared.Phase.{Phase}
-use Rattle.replica.specs.declared.Phase.the-variants.{Idle, Querying, Updating}
+use Rattle.replica.specs.declared.Phase.the-variants.{Idle}
 use Rattle.replica.specs.declared.Replica.{Replica}
 use Rattle.replica.specs.declared.Sends.{Sends}
 use Rattle.replica.specs.declared.Sends.the-variants.{Nothing, Reply, Broadcast}
@@ -35,8 +35,8 @@ use Rattle.state.specs.WellLaws.{Well, PhaseOk, ReplicaOk, message-ok}
 use Rattle.state.specs.WellFormed.{every, messageFits}
 use Rattle.moves.specs.Lists.{All, all-append, all-removed, all-at}
 use Rattle.moves.specs.Places.{own-after, other-after, fresh-replica}
-use Rattle.moves.specs.Needed.{needed}
-use Rattle.moves.specs.NeededLaws.{needed-same}
+use Rattle.state.specs.Needed.{needed}
+use Rattle.state.specs.NeededLaws.{empty-few, needed-same}
 use Rattle.moves.specs.Move.{Begins, beginning, asking, begun, Delivers, repliersThen, replying, telling, arrived, downNow, Move}
 use Rattle.moves.specs.Move.Move.{reads, writes, responds, stores, discards, counts, chooses, gathers, completes, crashes, loses}
 use Rattle.moves.specs.Free.{FreelyReached}
@@ -75,14 +75,9 @@ none-fits : (s : State) (r : Replica) → r .repliers ≡ 0 → SetFits s r
 none-fits s r e =
     record {
       inside = rw e (inside-empty (s .n));
-      few = rw e (by (r .phase));
+      few = empty-few s (r .phase) (r .repliers) e;
       empty = λ f. e;
     }
-  where
-    by : (phase : Phase) → counted 0 < needed s phase
-    by Idle = omega (arith, counted-empty)
-    by (Querying row gathered) = omega (arith, counted-empty)
-    by (Updating row sent) = omega (arith, counted-empty)
 
 -- in another state of the run
 fits-same : (s t : State) → t .n ≡ s .n → (r : Replica) → SetFits s r → SetFits t r
@@ -202,11 +197,5 @@ well-placed s w =
         (record { sender = ok .sender; recipient = ok .recipient }, all-ends xs (and-right (messageFits s m) (every (messageFits s) xs) e))
 
     fits : {p : ℕ} (r : Replica) → ReplicaOk s p r → SetFits s r
-    fits {p} r o = by (r .phase) refl
-      where
-        by : (phase : Phase) → r .phase ≡ phase → SetFits s r
-        by Idle f = none-fits s r (subst (λ phase. PhaseOk s p phase (r .repliers)) f (o .phase) .1)
-        by (Querying row gathered) f =
-            record { inside = o .inside; few = rw f (o .few); empty = λ g. let z : _≡_ {A = ℕ} 0 1 = cc in absurd (omega arith) }
-        by (Updating row sent) f =
-            record { inside = o .inside; few = rw f (o .few); empty = λ g. let z : _≡_ {A = ℕ} 0 1 = cc in absurd (omega arith) }
+    fits {p} r o =
+        record { inside = o .inside; few = o .few; empty = λ f. subst (λ phase. PhaseOk s p phase (r .repliers)) f (o .phase) .1 }

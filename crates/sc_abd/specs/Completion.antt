@@ -1,4 +1,4 @@
--- What completes an operation: an ack of the present request that makes a majority, and nothing else.
+-- What completes an operation: an ack of the present request that makes as many as end its phase, a majority, and nothing else.
 use Prim.Native.Nat.{ℕ, _-_, _≤_, _<_}
 use mathlib.Core.Path.{_≡_, refl, sym, ap, subst, _∙_}
 use mathlib.Core.Logic.{_≢_, _⊎_, inl, inr}
@@ -13,7 +13,7 @@ use Rattle.words.specs.declared.Body.{Body}
 use Rattle.words.specs.declared.Body.the-variants.{Ack}
 use Rattle.words.specs.declared.Message.{Message}
 use Rattle.words.specs.declared.Pair.{Pair}
-use Rattle.words.specs.Quorum.{joined, counted, majorityOf}
+use Rattle.words.specs.Quorum.{joined, counted}
 use Rattle.words.specs.QuorumLaws.{Inside, joined-inside}
 use Rattle.replica.specs.declared.Answer.{Answer}
 use Rattle.replica.specs.declared.Ended.{Ended}
@@ -27,6 +27,7 @@ use Rattle.tables.specs.declared.Row.{Row}
 use Rattle.tables.specs.Tables.{emptyRow, seek}
 use Rattle.state.specs.declared.Event.{Event}
 use Rattle.state.specs.declared.Event.the-variants.{Read, Write, Deliver, Crash, Lose}
+use Rattle.state.specs.Needed.{acksNeeded, needed}
 use Rattle.state.specs.State.{State, rowOf}
 use Rattle.state.specs.Step.{answeredRows, queriedRow, completed, step}
 use Rattle.state.specs.Accepted.{messageAt, recipientAt, plain, deliverNext}
@@ -39,7 +40,8 @@ use Rattle.sc_abd.specs.Answers.{isMajority, Answers, plain-answers}
 use Rattle.sc_abd.specs.Answers.Answers.{replies, stores, discards, asks, chooses, waits, ends}
 use Rattle.sc_abd.specs.Numbering.{found-place}
 
--- an ack of the present request, to the process that waits for that row; and with its sender the processes in the set are a majority of 1..N
+-- an ack of the present request, to the process that waits for that row; and with its sender the processes in the set are of 1..N and as many as end the
+-- phase
 pub record Completes (s : State) (e : Event) (row : ℕ) : Type 0 where
   pub number : ℕ
   pub place : ℕ
@@ -52,7 +54,7 @@ pub record Completes (s : State) (e : Event) (row : ℕ) : Type 0 where
   pub phase : recipientAt s place .phase ≡ Updating row sent
   pub process : rowOf s row .process .0 ≡ messageAt s place .to .0
   pub processes : Inside (s .n) (joined (recipientAt s place .repliers) (messageAt s place .from .0))
-  pub majority : majorityOf (s .n) ≤ counted (joined (recipientAt s place .repliers) (messageAt s place .from .0))
+  pub enough : needed s (Updating row sent) ≤ counted (joined (recipientAt s place .repliers) (messageAt s place .from .0))
 
 -- an operation goes on, whether its query phase has ended or not
 abbrev goesOn : Ended → Bool
@@ -127,7 +129,7 @@ module _ (s : State) (w : Well s) (row : ℕ) (old : Within row (length (s .rows
             phase = c .phase ∙ ap (λ x. Updating x (c .sent)) here;
             process = own-row;
             processes = joined-inside (s .n) (r .repliers) (m .from .0) (ok .sender .least) (ok .sender .most) (w .processes .most) (mine .inside);
-            majority = leb-true (majorityOf (s .n)) (counted (joined (r .repliers) (m .from .0))) (c .majority);
+            enough = leb-true (acksNeeded s) (counted (joined (r .repliers) (m .from .0))) (c .majority);
           }
         where
           ok : MessageOk s m

@@ -17,6 +17,7 @@ use Rattle.tables.specs.declared.Kind.the-variants.{Read}
 use Rattle.tables.specs.Tables.{seek, removed}
 use Rattle.state.specs.declared.Event.{Event}
 use Rattle.state.specs.declared.Event.the-variants.{Deliver}
+use Rattle.state.specs.Needed.{responsesNeeded, acksNeeded}
 use Rattle.state.specs.State.{State, freshReplica, replicaOf, rowOf}
 use Rattle.state.specs.Step.{askedRegister, step}
 use Rattle.state.specs.Accepted.{messageAt, recipientAt, plain, plainBy, deliverNext}
@@ -32,8 +33,8 @@ use Rattle.sc_abd.specs.SameAck.{ack-not}
 use Rattle.sc_abd.specs.SameResponse.{nextBy, response-not}
 use Rattle.sc_abd.specs.Numbering.{found-place}
 use Rattle.sc_abd.specs.Completion.{Completes, event-completes}
-use Rattle.sc_abd.specs.Replied.{MajorityReplied, Queried, Majorities, UpdatesRead, longer}
-use Rattle.sc_abd.specs.RepliedKept.{majority-replied, repliers-replied}
+use Rattle.sc_abd.specs.Replied.{QuorumReplied, Queried, Majorities, UpdatesRead, longer}
+use Rattle.sc_abd.specs.RepliedKept.{quorum-replied, repliers-replied}
 use Rattle.sc_abd.specs.QueriedKept.{reads-queried}
 use Rattle.sc_abd.specs.Theorem.{reached-well, step-meets-demand2}
 
@@ -93,9 +94,9 @@ late-reply-changes-nothing s r k i found z reply late =
 -- a row that was pending and is answered after an event: of its process, and of the request number that this had before the event
 pub complete-after-majority : {s : State} {run : List Moment} → Run s run → (e : Event) → step s e .refusal ≡ 0
     → (row : ℕ) → Within row (length (s .rows)) → rowOf s row .answered .0 ≡ 0 → rowOf (step s e .state) row .answered .0 ≢ 0
-    → Majorities (s .n) (rowOf s row .process .0) (replicaOf s (rowOf s row .process .0) .rid .0) (rowOf s row .kind) run (record { before = s; event = e })
+    → Majorities s (rowOf s row .process .0) (replicaOf s (rowOf s row .process .0) .rid .0) (rowOf s row .kind) run (record { before = s; event = e })
 complete-after-majority {s} {run} run-to e z row old pending new =
-    subst₂ (λ p x. Majorities (s .n) p (replicaOf s p .rid .0) (rowOf s row .kind) run (record { before = s; event = x }))
+    subst₂ (λ p x. Majorities s p (replicaOf s p .rid .0) (rowOf s row .kind) run (record { before = s; event = x }))
     (sym (c .process)) (sym (c .event)) (record { responses = responses; acks = acks })
   where
     w : Well s
@@ -113,11 +114,12 @@ complete-after-majority {s} {run} run-to e z row old pending new =
     ok : MessageOk s m
     ok = message-at s w (c .place) (c .in-flight)
 
-    responses : rowOf s row .kind ≡ Read → Queried (s .n) (m .to .0) (r .rid .0) run
+    responses : rowOf s row .kind ≡ Read → Queried (s .n) (responsesNeeded s) (m .to .0) (r .rid .0) run
     responses read = reads-queried run-to .each (m .to .0) (ok .recipient) (subst (UpdatesRead (s .rows)) (sym (c .phase)) read)
 
-    acks : MajorityReplied (s .n) (m .to .0) (r .rid .0) Stage.updating (longer s (Deliver (c .number)) run)
+    acks : QuorumReplied (s .n) (acksNeeded s) (m .to .0) (r .rid .0) Stage.updating (longer s (Deliver (c .number)) run)
     acks =
-        subst (λ x. MajorityReplied (s .n) (m .to .0) (r .rid .0) (stageOf x) (longer s (Deliver (c .number)) run)) (c .phase)
-        (majority-replied s w run (repliers-replied run-to) (c .number) (c .place) (c .found) (m .to .0) (ok .recipient .least) refl
-        (ap isReply (c .ack)) (c .present) (ap stageFor (c .ack) ∙ ap stageOf (sym (c .phase))) (c .processes) (c .majority))
+        subst (λ x. QuorumReplied (s .n) (acksNeeded s) (m .to .0) (r .rid .0) (stageOf x) (longer s (Deliver (c .number)) run)) (c .phase)
+        (quorum-replied s w run (repliers-replied run-to) (c .number) (c .place) (c .found) (m .to .0) (ok .recipient .least) refl
+        (ap isReply (c .ack)) (c .present) (ap stageFor (c .ack) ∙ ap stageOf (sym (c .phase))) (acksNeeded s)
+        (c .processes) (c .enough))

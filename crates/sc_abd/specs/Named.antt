@@ -3,7 +3,7 @@ use Prim.Native.Nat.{ℕ, _≤_}
 use mathlib.Core.Path.{_≡_}
 use mathlib.Core.Bool.{true}
 use mathlib.Core.List.{List, _∷_}
-use Rattle.words.specs.Quorum.{counted, majorityOf}
+use Rattle.words.specs.Quorum.{counted}
 use Rattle.words.specs.QuorumLaws.{Inside}
 use Rattle.replica.specs.Numbers.{pointed}
 use Rattle.tables.specs.declared.Found.the-variants.{At as Place}
@@ -42,7 +42,7 @@ named r Stage.updating = r .replied .update
 abbrev pub Exactly : Type 0 → Type 0 → Type 0
 Exactly A B = (A → B) × (B → A)
 
--- a majority of the processes 1..n
-pub record IsMajority (n who : ℕ) : Type 0 where
+-- at least so many of the processes 1..n
+pub record IsQuorum (n least who : ℕ) : Type 0 where
   pub inside : Inside n who
-  pub majority : majorityOf n ≤ counted who
+  pub enough : least ≤ counted who

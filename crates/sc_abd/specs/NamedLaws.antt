@@ -1,4 +1,4 @@
--- A row names exactly those whose replies were counted; and a completed one a majority in each phase that it had.
+-- A row names exactly those whose replies were counted; and a completed one as many as end it, a majority, in each phase that it had.
 use Prim.Native.Nat.{ℕ, _-_, _≤_}
 use mathlib.Core.Path.{_≡_, refl, sym, ap, _∙_}
 use mathlib.Core.Logic.{_≢_, inl, inr}
@@ -8,7 +8,7 @@ use native.Mathlib.Omega.{arith}
 use lib.Dec.{eqb, leb}
 use lib.ListN.{length}
 use borrow.Author.Tests.{ne-eqb, leb-true}
-use Rattle.words.specs.Quorum.{member, counted, majorityOf}
+use Rattle.words.specs.Quorum.{member, counted}
 use Rattle.words.specs.Ranges.{repliersFit}
 use Rattle.words.specs.RangeLaws.{and-left, and-right, fit-inside}
 use Rattle.replica.specs.declared.Phase.{Phase}
@@ -19,6 +19,7 @@ use Rattle.replica.specs.Numbers.{pointed}
 use Rattle.tables.specs.declared.Kind.the-variants.{Read}
 use Rattle.tables.specs.declared.Row.{Row}
 use Rattle.state.specs.declared.Event.{Event}
+use Rattle.state.specs.Needed.{responsesNeeded, acksNeeded}
 use Rattle.state.specs.State.{State, fresh, replicaOf, rowOf}
 use Rattle.state.specs.Step.{step}
 use Rattle.state.specs.Counting.{Moment, Run}
@@ -32,7 +33,7 @@ use Rattle.moves.specs.MoveLaws.{moves}
 use Rattle.moves.specs.Places.{fresh-replica}
 use Rattle.moves.specs.Stages.{Stage, stageOf}
 use Rattle.sc_abd.specs.Replied.{longer}
-use Rattle.sc_abd.specs.Named.{CountedFor, named, Exactly, IsMajority}
+use Rattle.sc_abd.specs.Named.{CountedFor, named, Exactly, IsQuorum}
 use Rattle.sc_abd.specs.Named.CountedFor.{now, earlier}
 use Rattle.sc_abd.specs.NamedKept.{Known, Learns, named-empty, none-in}
 use Rattle.sc_abd.specs.NamedMoves.{waits-for, unqueried, pending-answer, move-learns}
@@ -74,17 +75,17 @@ run-exact (fresh-run n m e f) =
 run-exact (then s e run r z) =
     next-exact s e (step s e .state) run (run-exact r) (move-learns s (run-well r) (moves s e z))
 
--- ---- enough is a majority
+-- ---- enough are a quorum
 
 either-left : (a b : Bool) → (a || b) ≡ true → b ≡ false → a ≡ true
 either-left true b e f = refl
 either-left false b e f = absurd (false≢true (sym f ∙ e))
 
-enough-majority : (s : State) (who : ℕ) → enough s who ≡ true → IsMajority (s .n) who
-enough-majority s who e =
+enough-quorum : (s : State) (least who : ℕ) → enough s least who ≡ true → IsQuorum (s .n) least who
+enough-quorum s least who e =
     record {
-      inside = fit-inside (s .n) who (and-left (repliersFit (s .n) who) (leb (majorityOf (s .n)) (counted who)) e);
-      majority = leb-true (majorityOf (s .n)) (counted who) (and-right (repliersFit (s .n) who) (leb (majorityOf (s .n)) (counted who)) e);
+      inside = fit-inside (s .n) who (and-left (repliersFit (s .n) who) (leb least (counted who)) e);
+      enough = leb-true least (counted who) (and-right (repliersFit (s .n) who) (leb least (counted who)) e);
     }
 
 -- ---- in a user's words
@@ -119,10 +120,14 @@ module _ {s : State} {run : List Moment} (r : Run s run) (row : ℕ) (there : Wi
       → Exactly (member (rowOf s row .replied .query) j ≡ true) (CountedFor row j Stage.querying run)
   query-named-exactly ended = settled Stage.querying (λ p actor e f. ended (unqueried s (run-well r) p actor row e f))
 
-  -- a completed operation names a majority in each phase that it had
+  -- a completed operation names as many as end it, a majority, in each phase that it had
   pub majorities-named : rowOf s row .answered .0 ≢ 0
-      → (rowOf s row .kind ≡ Read → IsMajority (s .n) (rowOf s row .replied .query)) × IsMajority (s .n) (rowOf s row .replied .update)
-  majorities-named complete = (λ read. enough-majority s (r′ .replied .query) (queried read), enough-majority s (r′ .replied .update) acked)
+      → (rowOf s row .kind ≡ Read → IsQuorum (s .n) (responsesNeeded s) (rowOf s row .replied .query))
+      × IsQuorum (s .n) (acksNeeded s) (rowOf s row .replied .update)
+  majorities-named complete = (
+    λ read. enough-quorum s (responsesNeeded s) (r′ .replied .query) (queried read),
+    enough-quorum s (acksNeeded s) (r′ .replied .update) acked,
+  )
     where
       r′ : Row
       r′ = rowOf s row
@@ -133,12 +138,12 @@ module _ {s : State} {run : List Moment} (r : Run s run) (row : ℕ) (there : Wi
       answered : eqb (r′ .answered .0) 0 ≡ false
       answered = ne-eqb (r′ .answered .0) 0 complete
 
-      queried : r′ .kind ≡ Read → enough s (r′ .replied .query) ≡ true
+      queried : r′ .kind ≡ Read → enough s (responsesNeeded s) (r′ .replied .query) ≡ true
       queried read =
-          either-left (enough s (r′ .replied .query)) (eqb (r′ .answered .0) 0 && eqb (r′ .replied .query) 0)
+          either-left (enough s (responsesNeeded s) (r′ .replied .query)) (eqb (r′ .answered .0) 0 && eqb (r′ .replied .query) 0)
           (sym (ap (λ k. cond (isWrite k) (eqb (r′ .replied .query) 0)
-          (enough s (r′ .replied .query) || (eqb (r′ .answered .0) 0 && eqb (r′ .replied .query) 0))) read) ∙ fits .query)
+          (enough s (responsesNeeded s) (r′ .replied .query) || (eqb (r′ .answered .0) 0 && eqb (r′ .replied .query) 0))) read) ∙ fits .query)
           (ap (λ b. b && eqb (r′ .replied .query) 0) answered)
 
-      acked : enough s (r′ .replied .update) ≡ true
-      acked = sym (ap (λ b. cond b (eqb (r′ .replied .update) 0) (enough s (r′ .replied .update))) answered) ∙ fits .update
+      acked : enough s (acksNeeded s) (r′ .replied .update) ≡ true
+      acked = sym (ap (λ b. cond b (eqb (r′ .replied .update) 0) (enough s (acksNeeded s) (r′ .replied .update))) answered) ∙ fits .update

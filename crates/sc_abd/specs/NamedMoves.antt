@@ -33,6 +33,7 @@ use Rattle.tables.specs.declared.Row.{Row}
 use Rattle.tables.specs.Tables.{emptyRow, seek, removed}
 use Rattle.state.specs.declared.Event.{Event}
 use Rattle.state.specs.declared.Event.the-variants.{Read, Write, Deliver, Crash, Lose}
+use Rattle.state.specs.Needed.{acksNeeded}
 use Rattle.state.specs.State.{State, replicaOf, rowOf}
 use Rattle.state.specs.Step.{begunRow, readRow, writeRow, queriedRow, completed, withoutMessage}
 use Rattle.state.specs.Accepted.{messageAt, recipientAt}
@@ -80,7 +81,7 @@ unacked : (s : State) → Well s → (i : ℕ) → i < length (s .rows) → getD
 unacked s w i l e =
     let r : Row = getD (s .rows) i emptyRow in
     eqb-true (r .replied .update) 0
-    (sym (ap (λ b. cond b (eqb (r .replied .update) 0) (enough s (r .replied .update))) (eq-eqb (r .answered .0) 0 e)) ∙ row-at s w i l .update)
+    (sym (ap (λ b. cond b (eqb (r .replied .update) 0) (enough s (acksNeeded s) (r .replied .update))) (eq-eqb (r .answered .0) 0 e)) ∙ row-at s w i l .update)
 
 pub pending-answer : (p row : ℕ) (rows : List Row) → pendingOf p 1 rows ≡ row ∷ [] → getD rows (row - 1) emptyRow .answered .0 ≡ 0
 pending-answer p row rows e =

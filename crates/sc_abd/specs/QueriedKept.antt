@@ -1,4 +1,4 @@
--- A process that updates for a read has queried before: a majority has responded to the request before its present one.
+-- A process that updates for a read has queried before: as many as end a query phase have responded to the request before its present one.
 use Prim.Native.Nat.{ℕ, _+_, _-_, _≤_}
 use mathlib.Core.Path.{_≡_, refl, sym, ap, subst, _∙_}
 use mathlib.Core.Bool.{true}
@@ -11,7 +11,7 @@ use Rattle.words.specs.declared.Body.{Body}
 use Rattle.words.specs.declared.Body.the-variants.{Response}
 use Rattle.words.specs.declared.Message.{Message}
 use Rattle.words.specs.declared.Pair.{Pair}
-use Rattle.words.specs.Quorum.{joined, counted, majorityOf}
+use Rattle.words.specs.Quorum.{joined, counted}
 use Rattle.words.specs.QuorumLaws.{joined-inside}
 use Rattle.replica.specs.declared.Answer.{Answer}
 use Rattle.replica.specs.declared.Phase.{Phase}
@@ -25,6 +25,7 @@ use Rattle.tables.specs.declared.Row.{Row}
 use Rattle.tables.specs.Tables.{emptyRow, seek, removed}
 use Rattle.state.specs.declared.Event.{Event}
 use Rattle.state.specs.declared.Event.the-variants.{Read, Write, Deliver, Crash, Lose}
+use Rattle.state.specs.Needed.{responsesNeeded}
 use Rattle.state.specs.State.{State, replicaOf, rowOf}
 use Rattle.state.specs.Step.{moved, writeRow, step}
 use Rattle.state.specs.Accepted.{messageAt, recipientAt, plain}
@@ -43,11 +44,11 @@ use Rattle.sc_abd.specs.Answers.Answers.{replies, stores, discards, asks
 use Rattle.moves.specs.Places.{own-after, other-after, fresh-replica}
 use Rattle.moves.specs.Stages.{Stage, isReply, stageOf, stageFor}
 use Rattle.sc_abd.specs.Numbering.{found-place}
-use Rattle.sc_abd.specs.Replied.{MajorityReplied, Queried, AllFilled, UpdatesRead, AllQueried, longer}
+use Rattle.sc_abd.specs.Replied.{QuorumReplied, Queried, AllFilled, UpdatesRead, AllQueried, longer}
 use Rattle.sc_abd.specs.Replied.Replied.{earlier}
-use Rattle.sc_abd.specs.RepliedKept.{majority-replied, repliers-replied}
+use Rattle.sc_abd.specs.RepliedKept.{quorum-replied, repliers-replied}
 
-queried-earlier : {n p rid : ℕ} {moment : Moment} {run : List Moment} → Queried n p rid run → Queried n p rid (moment ∷ run)
+queried-earlier : {n least p rid : ℕ} {moment : Moment} {run : List Moment} → Queried n least p rid run → Queried n least p rid (moment ∷ run)
 queried-earlier q =
     record {
       query = q .query;
@@ -56,7 +57,7 @@ queried-earlier q =
           record {
             processes = q .responded .processes;
             inside = q .responded .inside;
-            majority = q .responded .majority;
+            enough = q .responded .enough;
             each = λ j h. earlier (q .responded .each j h);
           };
     }
@@ -77,7 +78,7 @@ updated-read s rows kinds p (Updating row sent) repliers ok u = sym (kinds row (
 module _ (s : State) (w : Well s) (run : List Moment) (filled : AllFilled s run) (queried : AllQueried s run) where
   -- what is to be shown of p's replica after it, with these rows
   abbrev QueriedFor : Event → List Row → ℕ → Replica → Type 0
-  QueriedFor e rows p r = UpdatesRead rows (r .phase) → Queried (s .n) p (r .rid .0) (longer s e run)
+  QueriedFor e rows p r = UpdatesRead rows (r .phase) → Queried (s .n) (responsesNeeded s) p (r .rid .0) (longer s e run)
 
   same-queried : (e : Event) (rows : List Row) → KindsStay s rows → (p : ℕ) → Within p (s .n) → (r : Replica) → r .rid .0 ≡ replicaOf s p .rid .0
       → r .phase ≡ replicaOf s p .phase → QueriedFor e rows p r
@@ -113,14 +114,14 @@ module _ (s : State) (w : Well s) (run : List Moment) (filled : AllFilled s run)
     -- the response that makes a majority
     responded : (pair : Pair) (row : ℕ) (gathered : Gathered) → messageAt s i .body ≡ Response pair → replicaOf s p .phase ≡ Querying row gathered
         → messageAt s i .rid .0 ≡ replicaOf s p .rid .0 → isMajority (s .n) (replicaOf s p) (messageAt s i .from) ≡ true
-        → MajorityReplied (s .n) p (replicaOf s p .rid .0) Stage.querying (longer s (Deliver k) run)
+        → QuorumReplied (s .n) (responsesNeeded s) p (replicaOf s p .rid .0) Stage.querying (longer s (Deliver k) run)
     responded pair row gathered e f present many =
         let m = messageAt s i in
         let r = replicaOf s p in
-        subst (λ x. MajorityReplied (s .n) p (r .rid .0) (stageOf x) (longer s (Deliver k) run)) f
-        (majority-replied s w run filled k i found p (actor .least) to (ap isReply e) present (ap stageFor e ∙ ap stageOf (sym f))
+        subst (λ x. QuorumReplied (s .n) (responsesNeeded s) p (r .rid .0) (stageOf x) (longer s (Deliver k) run)) f
+        (quorum-replied s w run filled k i found p (actor .least) to (ap isReply e) present (ap stageFor e ∙ ap stageOf (sym f)) (responsesNeeded s)
         (joined-inside (s .n) (r .repliers) (m .from .0) (ok .sender .least) (ok .sender .most) (w .processes .most) (w .replica p actor .inside))
-        (leb-true (majorityOf (s .n)) (counted (joined (r .repliers) (m .from .0))) many))
+        (leb-true (responsesNeeded s) (counted (joined (r .repliers) (m .from .0))) many))
 
     taken-queried : {register : ℕ} {body : Body} {answer : Answer} → Answers (s .n) register (replicaOf s p) (messageAt s i) body answer
         → messageAt s i .body ≡ body → After answer

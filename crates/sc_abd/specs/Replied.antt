@@ -4,7 +4,7 @@ use mathlib.Core.Path.{_≡_}
 use mathlib.Core.Bool.{true}
 use mathlib.Core.List.{List, _∷_}
 use lib.ListN.{getD}
-use Rattle.words.specs.Quorum.{member, counted, majorityOf}
+use Rattle.words.specs.Quorum.{member, counted}
 use Rattle.words.specs.QuorumLaws.{Inside}
 use Rattle.replica.specs.declared.Phase.{Phase}
 use Rattle.replica.specs.declared.Phase.the-variants.{Idle, Querying, Updating}
@@ -16,6 +16,7 @@ use Rattle.tables.specs.declared.Row.{Row}
 use Rattle.tables.specs.Tables.{emptyRow, seek}
 use Rattle.state.specs.declared.Event.{Event}
 use Rattle.state.specs.declared.Event.the-variants.{Deliver}
+use Rattle.state.specs.Needed.{responsesNeeded, acksNeeded}
 use Rattle.state.specs.State.{State, replicaOf}
 use Rattle.state.specs.Accepted.{messageAt}
 use Rattle.state.specs.Counting.{Moment}
@@ -38,24 +39,24 @@ pub data Replied (p j rid : ℕ) (stage : Stage) : List Moment → Type 0 where
   now : {moment : Moment} {run : List Moment} → Receives p j rid stage moment → Replied p j rid stage (moment ∷ run)
   earlier : {moment : Moment} {run : List Moment} → Replied p j rid stage run → Replied p j rid stage (moment ∷ run)
 
--- a majority of the processes 1..n have replied to p's request of this number and phase, each at a moment of the run
-pub record MajorityReplied (n p rid : ℕ) (stage : Stage) (run : List Moment) : Type 0 where
+-- at least so many of the processes 1..n have replied to p's request of this number and phase, each at a moment of the run
+pub record QuorumReplied (n least p rid : ℕ) (stage : Stage) (run : List Moment) : Type 0 where
   pub processes : ℕ
   pub inside : Inside n processes
-  pub majority : majorityOf n ≤ counted processes
+  pub enough : least ≤ counted processes
   pub each : (j : ℕ) → member processes j ≡ true → Replied p j rid stage run
 
--- p's request before the one of this number was a query, and a majority has responded to it
-pub record Queried (n p rid : ℕ) (run : List Moment) : Type 0 where
+-- p's request before the one of this number was a query, and so many have responded to it
+pub record Queried (n least p rid : ℕ) (run : List Moment) : Type 0 where
   pub query : ℕ
   pub next : rid ≡ query + 1
-  pub responded : MajorityReplied n p query Stage.querying run
+  pub responded : QuorumReplied n least p query Stage.querying run
 
--- an operation of p that completes at the last moment, with this request number: a majority has acked it, and before that, of a read, a majority has
--- responded to its query
-pub record Majorities (n p rid : ℕ) (kind : Kind) (run : List Moment) (last : Moment) : Type 0 where
-  pub responses : kind ≡ Read → Queried n p rid run
-  pub acks : MajorityReplied n p rid Stage.updating (last ∷ run)
+-- an operation of p that completes at the last moment, with this request number: as many as end an update phase (a majority) have acked it, and before
+-- that, of a read, as many as end a query phase (a majority) have responded to its query
+pub record Majorities (s : State) (p rid : ℕ) (kind : Kind) (run : List Moment) (last : Moment) : Type 0 where
+  pub responses : kind ≡ Read → Queried (s .n) (responsesNeeded s) p rid run
+  pub acks : QuorumReplied (s .n) (acksNeeded s) p rid Stage.updating (last ∷ run)
 
 -- ---- what is kept over a run
 
@@ -74,7 +75,7 @@ UpdatesRead rows (Updating row sent) = getD rows (row - 1) emptyRow .kind ≡ Re
 
 -- then it has queried before
 pub record AllQueried (s : State) (run : List Moment) : Type 0 where
-  pub each : (p : ℕ) → Within p (s .n) → UpdatesRead (s .rows) (replicaOf s p .phase) → Queried (s .n) p (replicaOf s p .rid .0) run
+  pub each : (p : ℕ) → Within p (s .n) → UpdatesRead (s .rows) (replicaOf s p .phase) → Queried (s .n) (responsesNeeded s) p (replicaOf s p .rid .0) run
 
 -- one moment more
 abbrev pub longer : State → Event → List Moment → List Moment

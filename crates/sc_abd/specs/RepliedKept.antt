@@ -9,7 +9,7 @@ use native.Mathlib.Omega.{arith}
 use lib.ListN.{length}
 use Rattle.words.specs.declared.Body.{Body}
 use Rattle.words.specs.declared.Message.{Message}
-use Rattle.words.specs.Quorum.{member, joined, counted, majorityOf}
+use Rattle.words.specs.Quorum.{member, joined, counted}
 use Rattle.words.specs.QuorumLaws.{Inside, joined-only}
 use Rattle.replica.specs.declared.Answer.{Answer}
 use Rattle.replica.specs.declared.Replica.{Replica}
@@ -36,7 +36,7 @@ use Rattle.sc_abd.specs.Answers.{chosen, ended, asking, waiting, Answers
 use Rattle.sc_abd.specs.Answers.Answers.{replies, stores, discards, asks, chooses, waits, ends}
 use Rattle.sc_abd.specs.Idle.{idle-empty}
 use Rattle.sc_abd.specs.Numbering.{found-place}
-use Rattle.sc_abd.specs.Replied.{Replied, MajorityReplied, Filled, AllFilled, longer}
+use Rattle.sc_abd.specs.Replied.{Replied, QuorumReplied, Filled, AllFilled, longer}
 use Rattle.sc_abd.specs.Replied.Replied.{now, earlier}
 
 none-filled : (p : ℕ) (r : Replica) (run : List Moment) → r .repliers ≡ 0 → Filled p r run
@@ -105,12 +105,12 @@ module _ (s : State) (w : Well s) (run : List Moment) (filled : AllFilled s run)
           → stageOf (r .phase) ≡ stageOf (replicaOf s p .phase) → Filled p r (longer s (Deliver k) run)
       joins r set rid phase = rw (set, rid, phase) joined-replied
 
-      -- where they are a majority
-      pub majority-replied : Inside (s .n) (joined (replicaOf s p .repliers) (messageAt s i .from .0))
-          → majorityOf (s .n) ≤ counted (joined (replicaOf s p .repliers) (messageAt s i .from .0))
-          → MajorityReplied (s .n) p (replicaOf s p .rid .0) (stageOf (replicaOf s p .phase)) (longer s (Deliver k) run)
-      majority-replied inside majority =
-          record { processes = joined (replicaOf s p .repliers) (messageAt s i .from .0); inside = inside; majority = majority; each = joined-replied }
+      -- where they are so many
+      pub quorum-replied : (size : ℕ) → Inside (s .n) (joined (replicaOf s p .repliers) (messageAt s i .from .0))
+          → size ≤ counted (joined (replicaOf s p .repliers) (messageAt s i .from .0))
+          → QuorumReplied (s .n) size p (replicaOf s p .rid .0) (stageOf (replicaOf s p .phase)) (longer s (Deliver k) run)
+      quorum-replied size inside enough =
+          record { processes = joined (replicaOf s p .repliers) (messageAt s i .from .0); inside = inside; enough = enough; each = joined-replied }
 
     taken-filled : {register : ℕ} {body : Body} {answer : Answer} → Answers (s .n) register (replicaOf s p) (messageAt s i) body answer
         → messageAt s i .body ≡ body → After answer

@@ -15,7 +15,7 @@ use Rattle.words.specs.declared.Body.the-variants.{Ack}
 use Rattle.words.specs.declared.Message.{Message}
 use Rattle.words.specs.declared.Pair.{Pair}
 use Rattle.words.specs.declared.Time.{Time}
-use Rattle.words.specs.Quorum.{member}
+use Rattle.words.specs.Quorum.{member, counted}
 use Rattle.replica.specs.declared.Answer.{Answer}
 use Rattle.replica.specs.declared.Phase.{Phase}
 use Rattle.replica.specs.declared.Phase.the-variants.{Idle, Querying, Updating}
@@ -26,6 +26,7 @@ use Rattle.tables.specs.declared.Kind.{Kind}
 use Rattle.tables.specs.declared.Kind.the-variants.{Read, Write}
 use Rattle.tables.specs.declared.Row.{Row}
 use Rattle.tables.specs.Tables.{emptyRow, removed}
+use Rattle.state.specs.Needed.{needed}
 use Rattle.state.specs.State.{State, replicaOf, rowOf}
 use Rattle.state.specs.Step.{kept, completed}
 use Rattle.state.specs.WellFormed.{pendingOf}
@@ -169,7 +170,7 @@ module _ (s : State) (w : Well s) (n : Numbered s) (a : System) (same : Same s a
       only = mine .waits ∙ ap pointedRows f
 
       test : eqb (length after) (majority (s .n)) ≡ isMajority (s .n) r (m .from)
-      test = majority-test (r .repliers) (q .responses) (mine .replies) reply (sender-small s w n a same i l p actor to) new (s .n) (w .replica p actor .few)
+      test = majority-test (r .repliers) (q .responses) (mine .replies) reply (sender-small s w n a same i l p actor to) new (s .n) (subst (λ ph. counted (r .repliers) < needed s ph) f (w .replica p actor .few))
 
       clock : max (r .clock .0) (m .time .0) + 1 ≡ max (q .lt) (m .time .0) + 1
       clock = clock-after s w a same i p actor m

@@ -13,7 +13,7 @@ use borrow.Author.Tests.{eq-eqb, ne-eqb}
 use Rattle.words.specs.declared.Body.the-variants.{Response}
 use Rattle.words.specs.declared.Message.{Message}
 use Rattle.words.specs.declared.Pair.{Pair}
-use Rattle.words.specs.Quorum.{member, joined}
+use Rattle.words.specs.Quorum.{member, joined, counted}
 use Rattle.words.specs.QuorumLaws.{joined-inside}
 use Rattle.replica.specs.declared.Answer.{Answer}
 use Rattle.replica.specs.declared.Gathered.{Gathered}
@@ -27,6 +27,7 @@ use Rattle.tables.specs.declared.Kind.{Kind}
 use Rattle.tables.specs.declared.Kind.the-variants.{Read, Write}
 use Rattle.tables.specs.declared.Row.{Row}
 use Rattle.tables.specs.Tables.{emptyRow, removed}
+use Rattle.state.specs.Needed.{needed}
 use Rattle.state.specs.State.{State, replicaOf, rowOf}
 use Rattle.state.specs.Step.{moved, messageOf, queriedRow, answeredRows, askedRegister}
 use Rattle.state.specs.WellFormed.{pendingOf, isWrite}
@@ -195,7 +196,7 @@ module _ (s : State) (w : Well s) (n : Numbered s) (a : System) (same : Same s a
           greatest = max-more (q .responses) (tsvOf pair) (m .from .0) ∙ ap (λ v. maxTsv v (tsvOf pair)) (phase .best-so-far) ∙ sym (tsv-newer (gathered .best) pair)
 
           test : eqb (length after) (majority (s .n)) ≡ isMajority (s .n) r (m .from)
-          test = majority-test (r .repliers) (q .responses) (mine .replies) reply sender-small new (s .n) (w .replica p actor .few)
+          test = majority-test (r .repliers) (q .responses) (mine .replies) reply sender-small new (s .n) (subst (λ ph. counted (r .repliers) < needed s ph) f (w .replica p actor .few))
 
           clock : max (r .clock .0) (m .time .0) + 1 ≡ max (q .lt) (m .time .0) + 1
           clock = clock-after s w a same i p actor m

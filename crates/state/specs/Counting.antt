@@ -11,7 +11,7 @@ use lib.ListN.{length}
 use Rattle.words.specs.declared.Body.{Body}
 use Rattle.words.specs.declared.Body.the-variants.{Query, Response, Update, Ack}
 use Rattle.words.specs.declared.Message.{Message}
-use Rattle.words.specs.Quorum.{joined, counted, majorityOf}
+use Rattle.words.specs.Quorum.{joined, counted}
 use Rattle.words.specs.Ranges.{within}
 use Rattle.replica.specs.declared.Phase.{Phase}
 use Rattle.replica.specs.declared.Phase.the-variants.{Idle, Querying, Updating}
@@ -21,6 +21,7 @@ use Rattle.tables.specs.declared.Found.the-variants.{At as Place, Missing}
 use Rattle.tables.specs.Tables.{seek}
 use Rattle.state.specs.declared.Event.{Event}
 use Rattle.state.specs.declared.Event.the-variants.{Read, Write, Deliver, Crash, Lose}
+use Rattle.state.specs.Needed.{needed}
 use Rattle.state.specs.State.{State, fresh}
 use Rattle.state.specs.Step.{Outcome, step}
 use Rattle.state.specs.Follows.{messageAt, receiverOf}
@@ -47,23 +48,23 @@ isQuerying Idle = false
 isQuerying (Querying row gathered) = true
 isQuerying (Updating row sent) = false
 
--- with the sender the repliers are a majority
-abbrev pub makesMajority : ℕ → Replica → Message → Bool
-makesMajority n r message = leb (majorityOf n) (counted (joined (r .repliers) (message .from .0)))
+-- with the sender the repliers are as many as end the phase: a majority
+abbrev pub makesMajority : State → Replica → Message → Bool
+makesMajority s r message = leb (needed s (r .phase)) (counted (joined (r .repliers) (message .from .0)))
 
 -- a response counts while querying and with the present request number; this one counts and makes a majority
-abbrev pub makesQueryMajority : ℕ → Replica → Message → Bool
-makesQueryMajority n r message = isQuerying (r .phase) && eqb (message .rid .0) (r .rid .0) && makesMajority n r message
+abbrev pub makesQueryMajority : State → Replica → Message → Bool
+makesQueryMajority s r message = isQuerying (r .phase) && eqb (message .rid .0) (r .rid .0) && makesMajority s r message
 
-abbrev pub sentOnReceipt : ℕ → Replica → Message → Body → ℕ
-sentOnReceipt n r message (Query x) = 1
-sentOnReceipt n r message (Response pair) = cond (makesQueryMajority n r message) n 0
-sentOnReceipt n r message (Update x pair) = 1
-sentOnReceipt n r message Ack = 0
+abbrev pub sentOnReceipt : State → Replica → Message → Body → ℕ
+sentOnReceipt s r message (Query x) = 1
+sentOnReceipt s r message (Response pair) = cond (makesQueryMajority s r message) (s .n) 0
+sentOnReceipt s r message (Update x pair) = 1
+sentOnReceipt s r message Ack = 0
 
 abbrev pub sentOnFound : State → Found → ℕ
 sentOnFound s Missing = 0
-sentOnFound s (Place i) = sentOnReceipt (s .n) (receiverOf s i) (messageAt s i) (messageAt s i .body)
+sentOnFound s (Place i) = sentOnReceipt s (receiverOf s i) (messageAt s i) (messageAt s i .body)
 
 abbrev pub sentAt : State → Event → ℕ
 sentAt s (Read p x) = s .n

@@ -4,13 +4,14 @@ use mathlib.Core.Path.{_≡_, refl, sym, ap, _∙_}
 use mathlib.Core.Bool.{Bool, true, false, cond, _&&_}
 use mathlib.Core.List.{List, [], _∷_}
 use native.Mathlib.Omega.{arith}
-use lib.Dec.{eqb}
+use lib.Dec.{eqb, leb}
 use lib.ListN.{length, length-append}
 use lib.Seq.{take-length}
 use Rattle.words.specs.declared.Body.{Body}
 use Rattle.words.specs.declared.Body.the-variants.{Query, Response, Update, Ack}
 use Rattle.words.specs.declared.Message.{Message}
 use Rattle.words.specs.declared.Pair.{Pair}
+use Rattle.words.specs.Quorum.{joined, counted}
 use Rattle.replica.specs.declared.Answer.{Answer}
 use Rattle.replica.specs.declared.Gathered.{Gathered}
 use Rattle.replica.specs.declared.ResponseCounts.{ResponseCounts}
@@ -29,6 +30,7 @@ use Rattle.tables.specs.Tables.{seek, removed}
 use Rattle.tables.specs.TableLaws.{seek-at}
 use Rattle.state.specs.declared.Event.{Event}
 use Rattle.state.specs.declared.Event.the-variants.{Read, Write, Deliver, Crash}
+use Rattle.state.specs.Needed.{needed}
 use Rattle.state.specs.State.{State}
 use Rattle.state.specs.Step.{moved, posted, askedRegister, step}
 use Rattle.state.specs.Reached.{Reached}
@@ -39,7 +41,7 @@ use Rattle.state.specs.FollowsLaws.{either-way, accepted-follows}
 use Rattle.state.specs.Refusals.{accepted-counts-once}
 use Rattle.state.specs.EveryLaws.{length-removed}
 use Rattle.state.specs.KeepsMoved.{posted-length}
-use Rattle.state.specs.Counting.{Moment, Run, isQuerying, makesMajority, makesQueryMajority, sentOnReceipt, sentOnFound}
+use Rattle.state.specs.Counting.{Moment, Run, isQuerying, makesQueryMajority, sentOnReceipt, sentOnFound}
 use Rattle.state.specs.Counting.{sentAt, deliveredAt, lostAt, Counted, CountingRule}
 use Rattle.state.specs.Counting.RunBy.{begun, then}
 
@@ -53,21 +55,28 @@ ap-cond : {A B : Type 0} (f : A → B) (b : Bool) (x y : A) → f (cond b x y) �
 ap-cond f true x y = refl
 ap-cond f false x y = refl
 
-module _ (n : ℕ) (r : Replica) (message : Message) where
+module _ (s : State) (r : Replica) (message : Message) where
+  abbrev n : ℕ
+  n = s .n
+
+  -- with the sender there are enough for this phase
+  abbrev enough : Phase → Bool
+  enough phase = leb (needed s phase) (counted (joined (r .repliers) (message .from .0)))
+
   response-sends : (x : ℕ) (pair : Pair)
-      → sentBy n (responseRule r n x (message .from) (message .time) (message .rid) pair .sends) ≡ cond (makesQueryMajority n r message) n 0
+      → sentBy n (responseRule r n x (message .from) (message .time) (message .rid) pair .sends) ≡ cond (makesQueryMajority s r message) n 0
   unfolding responseRule responseCounted
   response-sends x pair = by-phase (r .phase)
     where
       sentIf : ResponseCounts → ℕ
       sentIf counts = sentBy n (responseTaken counts r n x (message .from) (message .time) pair .sends)
 
-      by-number : (row : ℕ) (gathered : Gathered) (same : Bool) → sentIf (cond same (For row gathered) Not) ≡ cond (same && makesMajority n r message) n 0
-      by-number row gathered true = ap-cond (λ (a : Answer). sentBy n (a .sends)) (makesMajority n r message) _ _
+      by-number : (row : ℕ) (gathered : Gathered) (same : Bool) → sentIf (cond same (For row gathered) Not) ≡ cond (same && enough (Querying row gathered)) n 0
+      by-number row gathered true = ap-cond (λ (a : Answer). sentBy n (a .sends)) (enough (Querying row gathered)) _ _
       by-number row gathered false = refl
 
       by-phase : (phase : Phase)
-          → sentIf (responseCounts phase (r .rid) (message .rid)) ≡ cond (isQuerying phase && eqb (message .rid .0) (r .rid .0) && makesMajority n r message) n 0
+          → sentIf (responseCounts phase (r .rid) (message .rid)) ≡ cond (isQuerying phase && eqb (message .rid .0) (r .rid .0) && enough phase) n 0
       by-phase Idle = refl
       by-phase (Querying row gathered) = by-number row gathered (eqb (message .rid .0) (r .rid .0))
       by-phase (Updating row sent) = refl
@@ -78,15 +87,15 @@ module _ (n : ℕ) (r : Replica) (message : Message) where
     where
       by-count : (counts : AckCounts) → sentBy n (ackTaken counts r n (message .from) (message .time) .sends) ≡ 0
       by-count NoAck = refl
-      by-count (AckFor row sent) = either-way (λ (a : Answer). sentBy n (a .sends) ≡ 0) (makesMajority n r message) _ _ refl refl
+      by-count (AckFor row sent) = either-way (λ (a : Answer). sentBy n (a .sends) ≡ 0) (enough (Updating row sent)) _ _ refl refl
 
 receipt-sends : (s : State) (r : Replica) (message : Message) (body : Body)
-    → sentBy (s .n) (ruleBy s r message body .sends) ≡ sentOnReceipt (s .n) r message body
+    → sentBy (s .n) (ruleBy s r message body .sends) ≡ sentOnReceipt s r message body
 unfolding queryRule updateRule
 receipt-sends s r message (Query x) = refl
-receipt-sends s r message (Response pair) = response-sends (s .n) r message (askedRegister s (r .phase)) pair
+receipt-sends s r message (Response pair) = response-sends s r message (askedRegister s (r .phase)) pair
 receipt-sends s r message (Update x pair) = refl
-receipt-sends s r message Ack = ack-sends (s .n) r message
+receipt-sends s r message Ack = ack-sends s r message
 
 -- ---- one event
 

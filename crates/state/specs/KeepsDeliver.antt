@@ -1,6 +1,6 @@
 -- An accepted delivery keeps well-formedness: the message is taken off, and no phase ends, or the response that makes a majority ends the query phase
 -- of the pending row, or the ack that makes one completes it.
-use Prim.Native.Nat.{ℕ, _+_, _-_, _≤_, _<_}
+use Prim.Native.Nat.{ℕ, _+_, _-_, _<_}
 use mathlib.Core.Path.{_≡_, refl, sym, ap, subst, _∙_}
 use mathlib.Core.Bool.{Bool, true, false, cond, _&&_, _||_, and-false, or-true}
 use mathlib.Core.List.{List, [], _∷_}
@@ -13,7 +13,7 @@ use Rattle.words.specs.declared.Body.{Body}
 use Rattle.words.specs.declared.Body.the-variants.{Query, Response, Update, Ack}
 use Rattle.words.specs.declared.Message.{Message}
 use Rattle.words.specs.declared.Pair.{Pair}
-use Rattle.words.specs.Quorum.{joined, counted, majorityOf}
+use Rattle.words.specs.Quorum.{joined, counted}
 use Rattle.words.specs.Ranges.{within, pairFits}
 use Rattle.words.specs.RangeLaws.{and-left, and-right, inside-fit}
 use Rattle.replica.specs.declared.Answer.{Answer}
@@ -32,6 +32,7 @@ use Rattle.replica.specs.Handlers.{responseCounts, responseCounted, responseTak
 use Rattle.replica.specs.Numbers.{pointed}
 use Rattle.tables.specs.declared.Row.{Row}
 use Rattle.tables.specs.Tables.{emptyRow, removed}
+use Rattle.state.specs.Needed.{responsesNeeded, acksNeeded, needed}
 use Rattle.state.specs.State.{State, replicaOf, rowOf}
 use Rattle.state.specs.Step.{completed, queriedRow, answeredRows, moved, askedRegister, stepDeliver}
 use Rattle.state.specs.WellFormed.{bodyFits, messageFits, isWrite, enough, rowFits, pendingOf}
@@ -133,11 +134,12 @@ module _ (s : State) (w : Well s) (room : s .accepted < 12000) (i : ℕ) (inside
     abbrev repliers : ℕ
     repliers = joined (replicaOf s p .repliers) (x .from .0)
 
-    abbrev isMajority : Bool
-    isMajority = leb (majorityOf (s .n)) (counted repliers)
+    -- they end this phase
+    abbrev isEnough : Phase → Bool
+    isEnough phase = leb (needed s phase) (counted repliers)
 
-    enough-replied : isMajority ≡ true → enough s repliers ≡ true
-    enough-replied e = both (inside-fit (s .n) repliers (joined-within s w p actor x k)) e
+    enough-replied : (phase : Phase) → isEnough phase ≡ true → enough s (needed s phase) repliers ≡ true
+    enough-replied phase e = both (inside-fit (s .n) repliers (joined-within s w p actor x k)) e
 
     pending-place : (row : ℕ) → pendingOf p 1 (s .rows) ≡ row ∷ [] → row - 1 < length (s .rows)
     pending-place row e = let h = pending-within p row (s .rows) e in omega (arith, h .least, h .most)
@@ -157,7 +159,7 @@ module _ (s : State) (w : Well s) (room : s .accepted < 12000) (i : ℕ) (inside
         accepted (placed r time (r .rid .0 + 1) (Updating row (gathered .best)) 0 (r .pairs))
         (broadcastOf time (r .rid .0 + 1) (Update (rowOf s row .register) (gathered .best))) (Queried repliers)
 
-    chosen-well : (row : ℕ) (gathered : Gathered) → PhaseOk s p (Querying row gathered) 0 → enough s repliers ≡ true → Takes row (chosenAnswer row gathered)
+    chosen-well : (row : ℕ) (gathered : Gathered) → PhaseOk s p (Querying row gathered) 0 → enough s (responsesNeeded s) repliers ≡ true → Takes row (chosenAnswer row gathered)
     chosen-well row gathered o fits =
         changed-well (chosenAnswer row gathered) row new (o .0) (pending-process p row (s .rows) (o .0))
         (queried-ok t old (row-later s t later old (row-at s w (row - 1) (pending-place row (o .0)))) repliers fits (o .1))
@@ -181,22 +183,22 @@ module _ (s : State) (w : Well s) (room : s .accepted < 12000) (i : ℕ) (inside
         later : Later s t
         later = moved-later s p (chosenAnswer row gathered) (removed i (s .flight)) (s .delivered + 1) (set (s .rows) (row - 1) new)
 
-        ended : (isWrite (rowOf t row .kind) || enough t (rowOf t row .replied .query)) ≡ true
+        ended : (isWrite (rowOf t row .kind) || enough t (responsesNeeded t) (rowOf t row .replied .query)) ≡ true
         ended =
-            ap (λ (y : Row). isWrite (y .kind) || enough s (y .replied .query)) (getD-set-same (s .rows) (row - 1) new emptyRow (pending-place row (o .0)))
+            ap (λ (y : Row). isWrite (y .kind) || enough s (responsesNeeded s) (y .replied .query)) (getD-set-same (s .rows) (row - 1) new emptyRow (pending-place row (o .0)))
             ∙ (ap (λ (b : Bool). isWrite (old .kind) || b) fits ∙ or-true (isWrite (old .kind)))
 
     response-counted : (row : ℕ) (gathered : Gathered) → PhaseOk s p (Querying row gathered) 0
         → Takes row (responseCounted (replicaOf s p) (s .n) (rowOf s row .register) (x .from) (x .time) row gathered)
     unfolding responseCounted
-    response-counted row gathered o = go isMajority refl
+    response-counted row gathered o = go (isEnough (Querying row gathered)) refl
       where
         waiting : Answer
         waiting =
             accepted (placed (replicaOf s p) time (replicaOf s p .rid .0) (Querying row gathered) repliers (replicaOf s p .pairs)) Nothing Pending
 
-        go : (b : Bool) → isMajority ≡ b → Takes row (cond b (chosenAnswer row gathered) waiting)
-        go true e = chosen-well row gathered o (enough-replied e)
+        go : (b : Bool) → isEnough (Querying row gathered) ≡ b → Takes row (cond b (chosenAnswer row gathered) waiting)
+        go true e = chosen-well row gathered o (enough-replied (Querying row gathered) e)
         go false e =
             quiet-well row waiting
             (record {
@@ -234,7 +236,7 @@ module _ (s : State) (w : Well s) (room : s .accepted < 12000) (i : ℕ) (inside
         let r = replicaOf s p in
         accepted (placed r time (r .rid .0 + 1) Idle 0 (r .pairs)) Nothing (At (record { 0 = time }) sent repliers)
 
-    done-well : (row : ℕ) (sent : Pair) → PhaseOk s p (Updating row sent) 0 → enough s repliers ≡ true → Takes row (doneAnswer sent)
+    done-well : (row : ℕ) (sent : Pair) → PhaseOk s p (Updating row sent) 0 → enough s (acksNeeded s) repliers ≡ true → Takes row (doneAnswer sent)
     done-well row sent o fits =
         changed-well (doneAnswer sent) row new (o .0) (pending-process p row (s .rows) (o .0))
         (completed-ok t old (row-later s t later old (row-at s w (row - 1) (pending-place row (o .0)))) repliers fits (record { 0 = time }) sent
@@ -263,14 +265,14 @@ module _ (s : State) (w : Well s) (room : s .accepted < 12000) (i : ℕ) (inside
 
     ack-counted : (row : ℕ) (sent : Pair) → PhaseOk s p (Updating row sent) 0 → Takes row (ackCounted (replicaOf s p) (s .n) (x .from) (x .time) row sent)
     unfolding ackCounted
-    ack-counted row sent o = go isMajority refl
+    ack-counted row sent o = go (isEnough (Updating row sent)) refl
       where
         waiting : Answer
         waiting =
             accepted (placed (replicaOf s p) time (replicaOf s p .rid .0) (Updating row sent) repliers (replicaOf s p .pairs)) Nothing Pending
 
-        go : (b : Bool) → isMajority ≡ b → Takes row (cond b (doneAnswer sent) waiting)
-        go true e = done-well row sent o (enough-replied e)
+        go : (b : Bool) → isEnough (Updating row sent) ≡ b → Takes row (cond b (doneAnswer sent) waiting)
+        go true e = done-well row sent o (enough-replied (Updating row sent) e)
         go false e =
             quiet-well row waiting
             (record {

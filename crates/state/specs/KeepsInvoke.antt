@@ -22,6 +22,8 @@ use Rattle.replica.specs.Gathering.{nothingGathered}
 use Rattle.replica.specs.Handlers.{accepted, broadcastOf, isIdle, readRule, writeRule, became as placed}
 use Rattle.tables.specs.declared.Row.{Row}
 use Rattle.tables.specs.Tables.{emptyRow}
+use Rattle.state.specs.Needed.{responsesNeeded}
+use Rattle.state.specs.NeededLaws.{empty-few}
 use Rattle.state.specs.State.{State, replicaOf}
 use Rattle.state.specs.Step.{readRow, writeRow, moved, stepRead, stepWrite}
 use Rattle.state.specs.WellFormed.{bodyFits, rowFits, isWrite, enough, pendingOf}
@@ -33,8 +35,9 @@ use Rattle.state.specs.PairLaws.{Within, ok-within, pair-start, pair-own
 use Rattle.state.specs.PendingLaws.{waits, pending-within, pending-append}
 use Rattle.state.specs.WellLaws.{RowOk, ok-row, PhaseOk, ReplicaOk, Well}
 
-idle-none : (s : State) (p : ℕ) (phase : Phase) (repliers : ℕ) → isIdle phase ≡ true → PhaseOk s p phase repliers → pendingOf p 1 (s .rows) ≡ []
-idle-none s p Idle repliers e o = o .0
+idle-none : (s : State) (p : ℕ) (phase : Phase) (repliers : ℕ) → isIdle phase ≡ true → PhaseOk s p phase repliers
+    → (pendingOf p 1 (s .rows) ≡ []) × (repliers ≡ 0)
+idle-none s p Idle repliers e o = o
 idle-none s p (Querying row gathered) repliers e o = absurd (false≢true e)
 idle-none s p (Updating row sent) repliers e o = absurd (false≢true e)
 
@@ -89,8 +92,8 @@ module _ (s : State) (w : Well s) (p x : ℕ) (i : Invoked s p x) where
               sixteen = o .sixteen;
               pairs = pairs-later s t later-of (s .m) (replicaOf s p .pairs) (o .pairs);
               inside = o .inside;
-              few = o .few;
-              phase = ph (added-own (s .rows) row p e (idle-none s p (replicaOf s p .phase) (replicaOf s p .repliers) (i .idle) (o .phase)));
+              few = empty-few t phase (replicaOf s p .repliers) (none .1);
+              phase = ph (added-own (s .rows) row p e (none .0));
             };
         sends = record { time = omega (arith, o .clock); rid = omega (arith, o .rid); body = b };
         others = λ q g.
@@ -111,6 +114,10 @@ module _ (s : State) (w : Well s) (p x : ℕ) (i : Invoked s p x) where
       o : ReplicaOk s p (replicaOf s p)
       o = w .replica p (i .actor)
 
+      -- an idle process has nothing pending, and its set is empty
+      none : (pendingOf p 1 (s .rows) ≡ []) × (replicaOf s p .repliers ≡ 0)
+      none = idle-none s p (replicaOf s p .phase) (replicaOf s p .repliers) (i .idle) (o .phase)
+
   read-well : Well (readNext s p x)
   unfolding readRule
   read-well =
@@ -122,7 +129,7 @@ module _ (s : State) (w : Well s) (p x : ℕ) (i : Invoked s p x) where
         answered = omega arith;
         pair = pair-start (s .accepted + 1) (s .n);
         written = refl;
-        query = or-true (enough s 0);
+        query = or-true (enough s (responsesNeeded s) 0);
         update = refl;
       })
       (ok-within (i .register))
@@ -151,7 +158,7 @@ module _ (s : State) (w : Well s) (p x : ℕ) (i : Invoked s p x) where
         update = refl;
       })
       (both (ok-within (i .register)) fits)
-      (λ e. (e, fits, ap (λ (y : Row). isWrite (y .kind) || enough s (y .replied .query)) (added-last (s .rows) (writeRow p x value time))))
+      (λ e. (e, fits, ap (λ (y : Row). isWrite (y .kind) || enough s (responsesNeeded s) (y .replied .query)) (added-last (s .rows) (writeRow p x value time))))
     where
       time : ℕ
       time = replicaOf s p .clock .0 + 1

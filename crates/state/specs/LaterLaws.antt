@@ -2,23 +2,23 @@
 -- own pending rows stay as they were.
 use Prim.Native.Nat.{ℕ, zero, suc, _-_, _≤_}
 use mathlib.Core.Path.{_≡_, refl, ap, _∙_}
-use mathlib.Core.Bool.{Bool, true, cond, _&&_, _||_}
+use mathlib.Core.Bool.{Bool, true, _||_}
 use mathlib.Core.List.{List, [], _∷_}
 use native.Mathlib.Omega.{arith}
-use lib.Dec.{eqb, leb}
 use lib.ListN.{getD}
 use Rattle.words.specs.declared.Body.{Body}
 use Rattle.words.specs.declared.Body.the-variants.{Query, Response, Update, Ack}
 use Rattle.words.specs.declared.Message.{Message}
 use Rattle.words.specs.declared.Pair.{Pair}
-use Rattle.words.specs.Quorum.{counted, majorityOf}
-use Rattle.words.specs.Ranges.{within, pairFits, repliersFit}
+use Rattle.words.specs.Ranges.{within, pairFits}
 use Rattle.words.specs.RangeLaws.{and-left, and-right}
 use Rattle.replica.specs.declared.Phase.{Phase}
 use Rattle.replica.specs.declared.Phase.the-variants.{Idle, Querying, Updating}
 use Rattle.replica.specs.declared.Replica.{Replica}
 use Rattle.tables.specs.declared.Row.{Row}
 use Rattle.tables.specs.Tables.{emptyRow}
+use Rattle.state.specs.Needed.{responsesNeeded, acksNeeded}
+use Rattle.state.specs.NeededLaws.{responses-same, acks-same, needed-same}
 use Rattle.state.specs.State.{State, rowOf}
 use Rattle.state.specs.WellFormed.{every, bodyFits, messageFits, isWrite, enough, rowFits, pendingOf, pairsFit}
 use Rattle.state.specs.EveryLaws.{both, every-mono}
@@ -72,8 +72,14 @@ module _ (s t : State) (l : Later s t) where
   messages-later = every-mono (messageFits s) (messageFits t) message-later
 
   -- as many processes are enough
-  pub enough-later : (set : ℕ) → enough t set ≡ enough s set
-  enough-later set = ap (λ (n : ℕ). repliersFit n set && leb (majorityOf n) (counted set)) (l .same-n)
+  enough-later : (least leastThen set : ℕ) → leastThen ≡ least → enough t leastThen set ≡ enough s least set
+  enough-later least leastThen set e = let same = l .same-n in cc
+
+  pub queried-later : (set : ℕ) → enough t (responsesNeeded t) set ≡ enough s (responsesNeeded s) set
+  queried-later set = enough-later (responsesNeeded s) (responsesNeeded t) set (responses-same s t (l .same-n))
+
+  pub acked-later : (set : ℕ) → enough t (acksNeeded t) set ≡ enough s (acksNeeded s) set
+  acked-later set = enough-later (acksNeeded s) (acksNeeded t) set (acks-same s t (l .same-n))
 
   pub row-later : (r : Row) → RowOk s r → RowOk t r
   row-later r k =
@@ -84,11 +90,8 @@ module _ (s t : State) (l : Later s t) where
         answered = omega (arith, k .answered, l .more);
         pair = pair-later (record { stamp = r .stamp; value = r .value }) (k .pair);
         written = k .written;
-        query =
-            ap (λ (b : Bool). cond (isWrite (r .kind)) (eqb (r .replied .query) 0) (b || (eqb (r .answered .0) 0 && eqb (r .replied .query) 0)))
-            (enough-later (r .replied .query))
-            ∙ k .query;
-        update = ap (cond (eqb (r .answered .0) 0) (eqb (r .replied .update) 0)) (enough-later (r .replied .update)) ∙ k .update;
+        query = rw (queried-later (r .replied .query)) (k .query);
+        update = rw (acked-later (r .replied .update)) (k .update);
       }
 
   pub rows-later : (rows : List Row) → every (rowFits s) rows ≡ true → every (rowFits t) rows ≡ true
@@ -113,8 +116,8 @@ module _ (s t : State) (l : Later s t) where
   phase-later p k (Updating row sent) repliers o = (
     k .pending ∙ o .0,
     pair-later sent (o .1),
-    ap (λ (r : Row). isWrite (r .kind) || enough t (r .replied .query)) (k .row row (o .0))
-        ∙ (ap (λ (b : Bool). isWrite (rowOf s row .kind) || b) (enough-later (rowOf s row .replied .query)) ∙ o .2),
+    ap (λ (r : Row). isWrite (r .kind) || enough t (responsesNeeded t) (r .replied .query)) (k .row row (o .0))
+        ∙ (ap (λ (b : Bool). isWrite (rowOf s row .kind) || b) (queried-later (rowOf s row .replied .query)) ∙ o .2),
   )
 
   pub replica-later : (p : ℕ) → Kept s t p → (r : Replica) → ReplicaOk s p r → ReplicaOk t p r
@@ -125,6 +128,6 @@ module _ (s t : State) (l : Later s t) where
         sixteen = o .sixteen;
         pairs = ap (λ (k : ℕ). pairsFit t k (r .pairs)) (l .same-m) ∙ pairs-later (s .m) (r .pairs) (o .pairs);
         inside = rw (l .same-n) (o .inside);
-        few = rw (l .same-n) (o .few);
+        few = rw (needed-same s t (l .same-n) (r .phase)) (o .few);
         phase = phase-later p k (r .phase) (r .repliers) (o .phase);
       }

@@ -1,5 +1,6 @@
 -- What a reader has to believe
 pub mod State
+pub mod Needed
 pub mod Step
 pub mod WellFormed
 pub mod Tabled
@@ -15,6 +16,7 @@ pub mod Refusals
 pub mod CountingLaws
 pub mod MadeUp
 -- Every accepted event keeps what is well formed
+pub mod NeededLaws
 pub mod EveryLaws
 pub mod FlightLaws
 pub mod PendingLaws

@@ -9,8 +9,8 @@ use lib.ListN.{length-set}
 use borrow.Author.Tests.{leb-false}
 use Rattle.words.specs.declared.Message.{Message}
 use Rattle.words.specs.declared.Pair.{Pair}
-use Rattle.words.specs.Quorum.{joined, counted, majorityOf}
-use Rattle.words.specs.QuorumLaws.{Inside, inside-empty, joined-inside, counted-empty}
+use Rattle.words.specs.Quorum.{joined, counted}
+use Rattle.words.specs.QuorumLaws.{Inside, inside-empty, joined-inside}
 use Rattle.words.specs.Ranges.{pairFits}
 use Rattle.words.specs.Stamps.{newer}
 use Rattle.replica.specs.declared.Answer.{Answer}
@@ -19,6 +19,8 @@ use Rattle.replica.specs.declared.Phase.{Phase}
 use Rattle.replica.specs.Clock.{after}
 use Rattle.replica.specs.ClockLaws.{after-least}
 use Rattle.replica.specs.Handlers.{stored, discarded, queryRule, updateRule, became as placed}
+use Rattle.state.specs.Needed.{needed}
+use Rattle.state.specs.NeededLaws.{empty-few, needed-same}
 use Rattle.state.specs.State.{State, replicaOf}
 use Rattle.state.specs.WellFormed.{pairsFit}
 use Rattle.state.specs.KeepsMoved.{SendsOk}
@@ -116,7 +118,7 @@ module _ (s : State) (w : Well s) (p : ℕ) (actor : Within p (s .n)) (x : Messa
             ap (λ (left : ℕ). pairsFit t left (replicaOf s p .pairs)) (l .same-m)
             ∙ pairs-later (ahead s) t l (s .m) (replicaOf s p .pairs) (own-later .pairs);
         inside = inside-empty (t .n);
-        few = omega (arith, counted-empty);
+        few = empty-few t phase 0 refl;
         phase = o;
       }
 
@@ -126,7 +128,7 @@ module _ (s : State) (w : Well s) (p : ℕ) (actor : Within p (s .n)) (x : Messa
       joined-inside (s .n) (replicaOf s p .repliers) (x .from .0) (k .sender .least) (k .sender .most) (w .processes .most) (w .replica p actor .inside)
 
   pub own-joined : (phase : Phase) → PhaseOk (ahead s) p phase (joined (replicaOf s p .repliers) (x .from .0))
-      → leb (majorityOf (s .n)) (counted (joined (replicaOf s p .repliers) (x .from .0))) ≡ false
+      → leb (needed s phase) (counted (joined (replicaOf s p .repliers) (x .from .0))) ≡ false
       → ReplicaOk (ahead s) p
       (placed (replicaOf s p) (after (replicaOf s p .clock .0) (x .time .0)) (replicaOf s p .rid .0) phase (joined (replicaOf s p .repliers) (x .from .0)) (replicaOf s p .pairs))
   own-joined phase o few =
@@ -136,6 +138,6 @@ module _ (s : State) (w : Well s) (p : ℕ) (actor : Within p (s .n)) (x : Messa
         sixteen = own-later .sixteen;
         pairs = own-later .pairs;
         inside = joined-within;
-        few = leb-false (majorityOf (s .n)) (counted (joined (replicaOf s p .repliers) (x .from .0))) few;
+        few = rw (needed-same s (ahead s) refl phase) (leb-false (needed s phase) (counted (joined (replicaOf s p .repliers) (x .from .0))) few);
         phase = o;
       }

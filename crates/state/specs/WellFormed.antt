@@ -11,7 +11,7 @@ use Rattle.words.specs.declared.Body.the-variants.{Query, Response, Update, Ack
 use Rattle.words.specs.declared.Message.{Message}
 use Rattle.words.specs.declared.Pair.{Pair}
 use Rattle.words.specs.Limits.{mostEvents}
-use Rattle.words.specs.Quorum.{counted, majorityOf}
+use Rattle.words.specs.Quorum.{counted}
 use Rattle.words.specs.Ranges.{within, isZero, pairFits, repliersFit}
 use Rattle.replica.specs.declared.Phase.{Phase}
 use Rattle.replica.specs.declared.Phase.the-variants.{Idle, Querying, Updating}
@@ -20,6 +20,7 @@ use Rattle.replica.specs.Handlers.{isIdle}
 use Rattle.tables.specs.declared.Kind.{Kind}
 use Rattle.tables.specs.declared.Kind.the-variants.{Read, Write}
 use Rattle.tables.specs.declared.Row.{Row}
+use Rattle.state.specs.Needed.{responsesNeeded, acksNeeded, needed}
 use Rattle.state.specs.State.{State, rowOf}
 
 abbrev pub every : {A : Type 0} → (A → Bool) → List A → Bool
@@ -58,19 +59,19 @@ abbrev pub isWrite : Kind → Bool
 isWrite Read = false
 isWrite Write = true
 
--- a set that ended a phase: enough processes, all of 1..N
-abbrev pub enough : State → ℕ → Bool
-enough s set = repliersFit (s .n) set && leb (majorityOf (s .n)) (counted set)
+-- a set that ended a phase: as many processes as it needed, all of 1..N
+abbrev pub enough : State → ℕ → ℕ → Bool
+enough s least set = repliersFit (s .n) set && leb least (counted set)
 
 -- the query phase: a write has none; a completed read's has ended, a pending one's may have
 abbrev pub queryFits : State → Row → Bool
 queryFits s r =
     cond (isWrite (r .kind)) (eqb (r .replied .query) 0)
-    (enough s (r .replied .query) || (eqb (r .answered .0) 0 && eqb (r .replied .query) 0))
+    (enough s (responsesNeeded s) (r .replied .query) || (eqb (r .answered .0) 0 && eqb (r .replied .query) 0))
 
 -- the update phase of a completed operation has ended, that of a pending one has not
 abbrev pub updateFits : State → Row → Bool
-updateFits s r = cond (eqb (r .answered .0) 0) (eqb (r .replied .update) 0) (enough s (r .replied .update))
+updateFits s r = cond (eqb (r .answered .0) 0) (eqb (r .replied .update) 0) (enough s (acksNeeded s) (r .replied .update))
 
 abbrev pub rowFits : State → Row → Bool
 rowFits s r =
@@ -105,7 +106,7 @@ phaseFits s p (Querying row gathered) repliers =
     && eqb (rowOf s row .replied .query) 0
 phaseFits s p (Updating row sent) repliers =
     isOnly row (pendingOf p 1 (s .rows)) && pairFits (s .accepted) (s .n) sent
-    && (isWrite (rowOf s row .kind) || enough s (rowOf s row .replied .query))
+    && (isWrite (rowOf s row .kind) || enough s (responsesNeeded s) (rowOf s row .replied .query))
 
 abbrev pub isStart : Pair → Bool
 isStart p = eqb (p .stamp .time .0) 0 && eqb (p .stamp .process .0) 0 && isZero (p .value)
@@ -116,11 +117,11 @@ pairsFit s zero pairs = every isStart pairs
 pairsFit s (suc left) [] = true
 pairsFit s (suc left) (p ∷ rest) = pairFits (s .accepted) (s .n) p && pairsFit s left rest
 
--- clocks at most the accepted events, request numbers at most twice it; replier sets inside 1..N with fewer than a majority
+-- clocks at most the accepted events, request numbers at most twice it; replier sets inside 1..N with fewer than end the phase
 abbrev pub replicaFits : State → ℕ → Replica → Bool
 replicaFits s p r =
     leb (r .clock .0) (s .accepted) && leb (r .rid .0) (2 * s .accepted) && eqb (length (r .pairs)) 16 && pairsFit s (s .m) (r .pairs)
-    && repliersFit (s .n) (r .repliers) && ltb (counted (r .repliers)) (majorityOf (s .n)) && phaseFits s p (r .phase) (r .repliers)
+    && repliersFit (s .n) (r .repliers) && ltb (counted (r .repliers)) (needed s (r .phase)) && phaseFits s p (r .phase) (r .repliers)
 
 -- processes behind N are up, idle and otherwise 0
 abbrev pub isFresh : Replica → Bool

@@ -10,7 +10,7 @@ use lib.Dec.{eqb, ltb, leb}
 use lib.ListN.{length, getD}
 use borrow.Author.Tests.{ltb-true, leb-true, eqb-true, not-true, lt-ltb, le-leb, lt-leb, eq-eqb}
 use Rattle.words.specs.declared.Message.{Message}
-use Rattle.words.specs.Quorum.{counted, majorityOf}
+use Rattle.words.specs.Quorum.{counted}
 use Rattle.words.specs.QuorumLaws.{Inside}
 use Rattle.words.specs.Ranges.{within, pairFits, repliersFit}
 use Rattle.words.specs.RangeLaws.{and-left, and-right, fit-inside, inside-fit}
@@ -21,6 +21,7 @@ use Rattle.replica.specs.declared.Replica.{Replica}
 use Rattle.replica.specs.Handlers.{stored}
 use Rattle.tables.specs.declared.Row.{Row}
 use Rattle.tables.specs.Tables.{emptyMessage, emptyRow}
+use Rattle.state.specs.Needed.{responsesNeeded, needed}
 use Rattle.state.specs.State.{State, freshReplica, replicaOf, rowOf}
 use Rattle.state.specs.WellFormed.{every, countsFit, bodyFits, messageFits, rising, flightFits, isWrite, enough, queryFits, updateFits, rowFits, historyFits}
 use Rattle.state.specs.WellFormed.{pendingOf, isEmpty, isOnly, phaseFits, pairsFit, replicaFits, isFresh, eachFits, replicasFit, wellFormed}
@@ -115,7 +116,7 @@ PhaseOk s p (Querying row gathered) repliers =
     × (rowOf s row .replied .query ≡ 0)
 PhaseOk s p (Updating row sent) repliers =
     (pendingOf p 1 (s .rows) ≡ row ∷ []) × (pairFits (s .accepted) (s .n) sent ≡ true)
-    × ((isWrite (rowOf s row .kind) || enough s (rowOf s row .replied .query)) ≡ true)
+    × ((isWrite (rowOf s row .kind) || enough s (responsesNeeded s) (rowOf s row .replied .query)) ≡ true)
 
 empty-ok : (l : List ℕ) → isEmpty l ≡ true → l ≡ []
 empty-ok [] e = refl
@@ -150,7 +151,7 @@ module _ (s : State) (p : ℕ) where
   phase-ok (Updating row sent) repliers e =
       let a : Bool = isOnly row (pendingOf p 1 (s .rows)) in
       let c : Bool = pairFits (s .accepted) (s .n) sent in
-      let d : Bool = isWrite (rowOf s row .kind) || enough s (rowOf s row .replied .query) in
+      let d : Bool = isWrite (rowOf s row .kind) || enough s (responsesNeeded s) (rowOf s row .replied .query) in
       let f : (a && c) ≡ true = and-left (a && c) d e in
       (only-ok row _ (and-left a c f), and-right a c f, and-right (a && c) d e)
 
@@ -167,7 +168,7 @@ pub record ReplicaOk (s : State) (p : ℕ) (r : Replica) : Type 0 where
   pub sixteen : length (r .pairs) ≡ 16
   pub pairs : pairsFit s (s .m) (r .pairs) ≡ true
   pub inside : Inside (s .n) (r .repliers)
-  pub few : counted (r .repliers) < majorityOf (s .n)
+  pub few : counted (r .repliers) < needed s (r .phase)
   pub phase : PhaseOk s p (r .phase) (r .repliers)
 
 module _ (s : State) (p : ℕ) (r : Replica) where
@@ -178,7 +179,7 @@ module _ (s : State) (p : ℕ) (r : Replica) where
       let c : Bool = eqb (length (r .pairs)) 16 in
       let d : Bool = pairsFit s (s .m) (r .pairs) in
       let u : Bool = repliersFit (s .n) (r .repliers) in
-      let w : Bool = ltb (counted (r .repliers)) (majorityOf (s .n)) in
+      let w : Bool = ltb (counted (r .repliers)) (needed s (r .phase)) in
       let z : Bool = phaseFits s p (r .phase) (r .repliers) in
       let e₆ : (a && b && c && d && u && w) ≡ true = and-left (a && b && c && d && u && w) z e in
       let e₅ : (a && b && c && d && u) ≡ true = and-left (a && b && c && d && u) w e₆ in

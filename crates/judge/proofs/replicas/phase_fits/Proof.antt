@@ -27,8 +27,8 @@ is-one-requires-2 c κs = search needs
 pair-fits-requires-2 : tie.Need-pair-fits-requires-2
 pair-fits-requires-2 c κs = search needs
 
-is-enough-requires : tie.Need-is-enough-requires
-is-enough-requires c κs = search needs
+has-queried-requires : tie.Need-has-queried-requires
+has-queried-requires c κs = search needs
 
 returns : tie.Need-returns
 returns c =
@@ -43,7 +43,7 @@ returns-2 c =
 returns-3 : tie.Need-returns-3
 returns-3 c =
     let a = c .before .before .before .before .before .before .before .args in
-    rw (c .before .is-enough .ensures, c .before .before .pair-fits2 .ensures, c .before .before .before .is-one2 .ensures) (sym (ap (λ (f : Phase). phaseJudged (limited (a .l)) (a .w) f (a .repliers)) (c .before .before .before .before .before .phase2 .given .1)))
+    rw (c .before .has-queried .ensures, c .before .before .pair-fits2 .ensures, c .before .before .before .is-one2 .ensures) (sym (ap (λ (f : Phase). phaseJudged (limited (a .l)) (a .w) f (a .repliers)) (c .before .before .before .before .before .phase2 .given .1)))
 
 pub phase-fits-spec : {M : Type 1} → statement M
 phase-fits-spec =
@@ -56,7 +56,7 @@ phase-fits-spec =
     enum-known-phase-2
     is-one-requires-2
     pair-fits-requires-2
-    is-enough-requires
+    has-queried-requires
     returns
     returns-2
     returns-3)

@@ -22,8 +22,8 @@ repliers-fit-requires c κs = search needs
 size-requires : tie.Need-size-requires
 size-requires c κs = search needs
 
-majority-requires : tie.Need-majority-requires
-majority-requires c κs = search needs
+needed-in-requires : tie.Need-needed-in-requires
+needed-in-requires c κs = search needs
 
 cast-result-3 : tie.Need-cast-result-3
 cast-result-3 c = search needs
@@ -32,7 +32,7 @@ phase-fits-requires : tie.Need-phase-fits-requires
 phase-fits-requires c κs = search needs
 
 returns : tie.Need-returns
-returns c = rw (c .phase-fits .ensures, c .before .majority .ensures, c .before .before .size .ensures, c .before .before .before .repliers-fit .ensures, c .before .before .before .before .stored-fit .ensures)
+returns c = rw (c .phase-fits .ensures, c .before .needed-in .ensures, c .before .before .size .ensures, c .before .before .before .repliers-fit .ensures, c .before .before .before .before .stored-fit .ensures)
 
 pub replica-fits-spec : {M : Type 1} → statement M
 replica-fits-spec =
@@ -44,7 +44,7 @@ replica-fits-spec =
     stored-fit-requires
     repliers-fit-requires
     size-requires
-    majority-requires
+    needed-in-requires
     cast-result-3
     phase-fits-requires
     returns)

@@ -9,8 +9,8 @@ use Rattle.judge.proofs.replied.query_fits.Tie as tie
 is-write-requires : tie.Need-is-write-requires
 is-write-requires c κs = search needs
 
-is-enough-requires : tie.Need-is-enough-requires
-is-enough-requires c κs = search needs
+has-queried-requires : tie.Need-has-queried-requires
+has-queried-requires c κs = search needs
 
 returns : tie.Need-returns
 returns c =
@@ -20,7 +20,7 @@ returns c =
 returns-2 : tie.Need-returns-2
 returns-2 c =
     let a = c .before .before .before .before .args in
-    query-read (limited (a .l)) (a .r) _ (sym (c .before .before .before .is-write .ensures) ∙ c .before .before .if1 .left) (c .before .is-enough .ensures)
+    query-read (limited (a .l)) (a .r) _ (sym (c .before .before .before .is-write .ensures) ∙ c .before .before .if1 .left) (c .before .has-queried .ensures)
 
 pub query-fits-spec : {M : Type 1} → statement M
-query-fits-spec = tie.close (tie.spec is-write-requires is-enough-requires returns returns-2)
+query-fits-spec = tie.close (tie.spec is-write-requires has-queried-requires returns returns-2)

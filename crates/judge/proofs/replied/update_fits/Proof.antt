@@ -6,8 +6,8 @@ use Rattle.judge.specs.StepLaws.{update-pending, update-done}
 use Rattle.judge.proofs.replied.update_fits.Statement.{statement}
 use Rattle.judge.proofs.replied.update_fits.Tie as tie
 
-is-enough-requires : tie.Need-is-enough-requires
-is-enough-requires c κs = search needs
+has-updated-requires : tie.Need-has-updated-requires
+has-updated-requires c κs = search needs
 
 returns : tie.Need-returns
 returns c =
@@ -17,7 +17,7 @@ returns c =
 returns-2 : tie.Need-returns-2
 returns-2 c =
     let a = c .before .before .before .args in
-    update-done (limited (a .l)) (a .r) _ (c .before .if1 .left) (c .is-enough .ensures)
+    update-done (limited (a .l)) (a .r) _ (c .before .if1 .left) (c .has-updated .ensures)
 
 pub update-fits-spec : {M : Type 1} → statement M
-update-fits-spec = tie.close (tie.spec is-enough-requires returns returns-2)
+update-fits-spec = tie.close (tie.spec has-updated-requires returns returns-2)
