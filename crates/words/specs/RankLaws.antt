@@ -1,6 +1,6 @@
 -- The laws of `rank`: for processes below 8 the numbers compare as the stamps do, and equal numbers are equal stamps. From 8 on they lie: (1, 9) and
 -- (2, 1) are both 17.
-use Rattle.std.specs.Prelude.{ℕ, ◌+◌, ◌*◌, ◌<◌, ◌≡◌, true, ◌&&◌, ltb}
+use Rattle.std.specs.Prelude.{◌<◌, ◌≡◌, true, ◌&&◌, ltb}
 use Rattle.std.proofs.Math.Path.{refl}
 use Rattle.std.proofs.Math.Logic.{inl, inr}
 use Rattle.std.proofs.Math.Decide.{dec_lt}
