@@ -1,1 +1,2 @@
 // Specs only: our own histories are always accepted.
+#![tactic(auto)]

@@ -1,4 +1,6 @@
 // One event carried out on the bench and its two lent tables, with no test of well-formedness: gather, decide, carry.
+#![tactic(auto)]
+
 ghost use Rattle.std.specs.Prelude.{◌≡◌, true, ◌≤◌, ◌<◌, length, get_or};
 ghost use Rattle.tables.specs.Tables.{empty_row, copies, laid_at};
 ghost use Rattle.state.specs.Tabled.{tabled};
@@ -14,14 +16,14 @@ mod gather;
 mod plans;
 
 // What was found among the messages in flight: the place of the wanted number, and its message, the empty one where there is none.
-#[derive(Drop)]
+#[derive(Clone, Copy)]
 pub struct Sought {
     pub found: Found,
     pub message: Message,
 }
 
 // Whom an event concerns: a process and its replica, the place of the row that it points to, and whether an end of the message is down.
-#[derive(Drop)]
+#[derive(Clone, Copy)]
 pub struct Whose {
     pub p: u8,
     pub r: Replica,
@@ -30,7 +32,7 @@ pub struct Whose {
 }
 
 // What was found, and the place of the row that the replica concerned points to.
-#[derive(Drop)]
+#[derive(Clone, Copy)]
 pub struct Asked {
     pub found: Found,
     pub message: Message,
@@ -38,7 +40,7 @@ pub struct Asked {
 }
 
 // What was found, and that row.
-#[derive(Drop)]
+#[derive(Clone, Copy)]
 pub struct Known {
     pub found: Found,
     pub message: Message,
@@ -46,7 +48,7 @@ pub struct Known {
 }
 
 // What an accepted event of a kind adds to the counts, and whether it takes a message off.
-#[derive(Drop)]
+#[derive(Clone, Copy)]
 pub struct Tally {
     pub rows: u16,
     pub delivered: u32,
@@ -56,7 +58,7 @@ pub struct Tally {
 
 // What is to be done to the two tables, and the reply: of the `flight` messages the one `at` a place is taken off if `cut`, `count` messages
 // are laid `from` a place on, and a row is written at a `place`, which is past the end where none is.
-#[derive(Drop)]
+#[derive(Clone, Copy)]
 pub struct Work {
     pub cut: bool,
     pub at: usize,

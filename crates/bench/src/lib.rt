@@ -1,4 +1,6 @@
 // The public functions of the bench. Each is total: it has no `requires`, and its contract says what it gives for every input, refused ones too.
+#![tactic(auto)]
+
 ghost use Rattle.std.specs.Prelude.{◌≡◌, cond, length, replicate};
 ghost use Rattle.tables.specs.Tables.{empty_message, empty_row};
 ghost use Rattle.state.specs.State.{view};
@@ -20,7 +22,7 @@ pub mod fresh;
 mod replies;
 
 // The reply to `order`: how many row numbers were laid.
-#[derive(Drop)]
+#[derive(Clone, Copy)]
 pub struct Ordered {
     pub refusal: u8,
     pub count: u16,

@@ -1,4 +1,6 @@
 // The C interface: functions over numbers and bytes, each the function that it wraps. In C a slice is a pointer and then a length (include/wagonmoth.h).
+#![tactic(auto)]
+
 ghost use Rattle.std.specs.Prelude.{◌≡◌, ◌+◌, ◌*◌};
 ghost use Rattle.replaying.specs.Replayed.{replay_reply, replay_left};
 ghost use Rattle.verdicts.specs.Verdict.{verdict_of};

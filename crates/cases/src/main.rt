@@ -1,4 +1,6 @@
 // Small schedules that are built in, each replayed: P12, and things that are no schedule.
+#![tactic(auto)]
+
 use libc::STDOUT_FILENO;
 
 fn show(bytes: &[u8]) {

@@ -1,4 +1,6 @@
 // The program: a text from standard input, the schedule file that it stands for to standard output. Text that is none is answered on standard error.
+#![tactic(auto)]
+
 use composing::Composed;
 use libc::{STDERR_FILENO, STDIN_FILENO, STDOUT_FILENO};
 use script::Fault;

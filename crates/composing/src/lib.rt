@@ -1,4 +1,6 @@
 // The file of a text: the bytes of a text in, the bytes of a schedule file out, into a lent output.
+#![tactic(auto)]
+
 ghost use Rattle.std.specs.Prelude.{◌≡◌, true, ◌+◌, ◌≤◌, length, drop};
 ghost use Rattle.words.specs.Ranges.{within};
 ghost use Rattle.writing.specs.Bytes.{events_bytes};
@@ -26,7 +28,7 @@ mod rest;
 pub const LONGEST_COMPLAINT: usize = 66;
 
 // The size of the file, the line that is wrong and what is wrong with it, or an output that is shorter than the file.
-#[derive(Drop)]
+#[derive(Clone, Copy)]
 pub enum Composed {
     File(usize),
     Wrong(usize, Fault),
@@ -34,21 +36,21 @@ pub enum Composed {
 }
 
 // A line of a text, and the place behind it.
-#[derive(Drop)]
+#[derive(Clone, Copy)]
 pub struct Parted {
     pub line: Line,
     pub next: usize,
 }
 
 // The line of the bench: N, M, the place behind it, and its number.
-#[derive(Drop)]
+#[derive(Clone, Copy)]
 pub enum Opening {
     Bench(u8, u8, usize, usize),
     Wrong(usize, Fault),
 }
 
 // The size of the file, or the line that is wrong.
-#[derive(Drop)]
+#[derive(Clone, Copy)]
 pub enum Survey {
     Size(usize),
     Wrong(usize, Fault),

@@ -1,5 +1,7 @@
 // What an event does, decided by value: from the counts, the one replica that it concerns, and what was gathered from the tables, to a plan.
 // All rules and all branches of the bench stand here; whoever holds the tables only gathers and carries.
+#![tactic(auto)]
+
 use replica::Replica;
 use tables::Row;
 use words::Message;
@@ -11,7 +13,7 @@ mod rows;
 mod sends;
 
 // The counts that the checks look at.
-#[derive(Drop)]
+#[derive(Clone, Copy)]
 pub struct Counters {
     pub n: u8,
     pub m: u8,
@@ -23,7 +25,7 @@ pub struct Counters {
 
 // What is to be carried out: nothing where it is refused. The replica takes its place again, the message `at` a place is taken off if the event
 // takes one, `count` messages follow from `first` on, and the row of this number, if it is not 0, is written.
-#[derive(Drop)]
+#[derive(Clone, Copy)]
 pub struct Plan {
     pub refusal: u8,
     pub replica: Replica,

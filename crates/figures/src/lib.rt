@@ -1,5 +1,7 @@
 // The figures of a monthly sheet, by value: what one row comes to, sums within 64 bits, what one schedule adds, and a sheet with one schedule more.
 // A sheet lies in memory as C lays it out: hosts hold it between schedules.
+#![tactic(auto)]
+
 ghost use Rattle.std.specs.Prelude.{◌≡◌};
 ghost use Rattle.figures.specs.Figures.{empty_sheet};
 
@@ -10,7 +12,7 @@ pub mod totals;
 
 // The operations of one kind.
 #[repr(C)]
-#[derive(Drop)]
+#[derive(Clone, Copy)]
 pub struct Operations {
     pub begun: u64,
     pub completed: u64,
@@ -18,7 +20,7 @@ pub struct Operations {
 
 // Response time minus invocation time over completed operations. The least and the greatest are 0 where the count is.
 #[repr(C)]
-#[derive(Drop)]
+#[derive(Clone, Copy)]
 pub struct Waits {
     pub count: u64,
     pub sum: u64,
@@ -28,7 +30,7 @@ pub struct Waits {
 
 // What the rows of schedules come to.
 #[repr(C)]
-#[derive(Drop)]
+#[derive(Clone, Copy)]
 pub struct History {
     pub reads: Operations,
     pub writes: Operations,
@@ -37,7 +39,7 @@ pub struct History {
 
 // What the events of schedules come to.
 #[repr(C)]
-#[derive(Drop)]
+#[derive(Clone, Copy)]
 pub struct Traffic {
     pub sent: u64,
     pub delivered: u64,
@@ -46,7 +48,7 @@ pub struct Traffic {
 }
 
 // What one schedule adds. One that is refused by file has its number and nothing else.
-#[derive(Drop)]
+#[derive(Clone, Copy)]
 pub struct Entry {
     pub refusal: u8,
     pub history: History,
@@ -55,7 +57,7 @@ pub struct Entry {
 
 // All schedules so far; how many were refused by file by each number, under 0 those that were not; and what those come to.
 #[repr(C)]
-#[derive(Drop)]
+#[derive(Clone, Copy)]
 pub struct Sheet {
     pub schedules: u64,
     pub files: [u64; 32],
@@ -65,7 +67,7 @@ pub struct Sheet {
 
 // The reply to a schedule: 0 and the sheet with it, or 28 and the sheet as it was.
 #[repr(C)]
-#[derive(Drop)]
+#[derive(Clone, Copy)]
 pub struct Added {
     pub refusal: u8,
     pub sheet: Sheet,

@@ -1,4 +1,6 @@
 // The program: a schedule from standard input, the messages in flight after it to standard output.
+#![tactic(auto)]
+
 use libc::{STDERR_FILENO, STDIN_FILENO, STDOUT_FILENO};
 
 // It takes no arguments; whoever gives one, as `-h`, is told what it takes.

@@ -1,4 +1,6 @@
 // The history file of a bench of ours, written into a lent buffer: what `verdicts` judges.
+#![tactic(auto)]
+
 ghost use Rattle.std.specs.Prelude.{◌+◌, ◌*◌, ◌≤◌, length, take};
 ghost use Rattle.text.specs.Written.{Wrote};
 ghost use Rattle.histories.specs.OwnFile.{rows_text, Recorded};

@@ -1,5 +1,7 @@
 // The messages in flight after a schedule: the bytes of a schedule in, a line for each message out. The tables are made here, so a caller lends only the bytes and an
 // output for the text.
+#![tactic(auto)]
+
 ghost use Rattle.std.specs.Prelude.{◌≡◌, ◌*◌, ◌≤◌, length, take};
 ghost use Rattle.text.specs.Written.{Wrote};
 ghost use Rattle.schedule.specs.Opening.{run_reply};

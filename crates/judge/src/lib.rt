@@ -1,5 +1,7 @@
 // Whether a bench and its two lent tables are well formed: 18 is given exactly when they are not. Each test of one message, one row or one
 // replica goes by value; a table is gone through once, and what was seen of it is carried along.
+#![tactic(auto)]
+
 ghost use Rattle.std.specs.Prelude.{◌≡◌, length};
 ghost use Rattle.state.specs.Tabled.{tabled};
 ghost use Rattle.judge.specs.Scans.{limited, start_messages, scan_messages, start_rows, scan_rows};
@@ -16,7 +18,7 @@ mod replied;
 mod rows;
 
 // The counts that the tests look at.
-#[derive(Drop)]
+#[derive(Clone, Copy)]
 pub struct Limits {
     pub n: u8,
     pub m: u8,
@@ -25,7 +27,7 @@ pub struct Limits {
 }
 
 // What was seen of the messages: whether all fit, the last number, and how many are still in flight.
-#[derive(Drop)]
+#[derive(Clone, Copy)]
 pub struct Scan {
     pub ok: bool,
     pub last: u32,
@@ -34,7 +36,7 @@ pub struct Scan {
 
 // What was seen of one process's pending rows: whether there is one, whether there are several, and the first one's place and kind, and whose
 // replies ended its query phase.
-#[derive(Drop)]
+#[derive(Clone, Copy)]
 pub struct Waiting {
     pub some: bool,
     pub several: bool,
@@ -44,7 +46,7 @@ pub struct Waiting {
 }
 
 // What was seen of the rows: whether all fit, how many are still in use, and the pending ones of each process.
-#[derive(Drop)]
+#[derive(Clone, Copy)]
 pub struct RowScan {
     pub ok: bool,
     pub left: u16,

@@ -1,4 +1,6 @@
 // The history file of a schedule: its bytes in, the history and the one order out, as a file that `verdicts` judges. The tables are made here, so a caller lends only the bytes and a buffer.
+#![tactic(auto)]
+
 ghost use Rattle.std.specs.Prelude.{◌≡◌, ◌≤◌, length};
 ghost use Rattle.text.specs.Written.{Wrote};
 ghost use Rattle.replaying.specs.Replayed.{Fronts};

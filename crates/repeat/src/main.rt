@@ -1,4 +1,6 @@
 // For the benchmark in bench/: a schedule from standard input, replayed as many times as the first argument says, its text written once.
+#![tactic(auto)]
+
 use libc::{STDIN_FILENO, STDOUT_FILENO};
 
 // One more digit of a number; a byte that is no digit leaves it.

@@ -1,4 +1,6 @@
 // A whole replay: the bytes of a schedule in, its text out. The tables are made here, so a caller lends only the bytes and a buffer for the text.
+#![tactic(auto)]
+
 ghost use Rattle.std.specs.Prelude.{◌≡◌, ◌≤◌, length};
 ghost use Rattle.text.specs.Written.{Wrote};
 ghost use Rattle.schedule.specs.Opening.{run_reply};

@@ -6,7 +6,7 @@ ghost use Rattle.replica.specs.Clock.{after_time, clock_after};
 
 use words::Time;
 
-#[derive(Drop)]
+#[derive(Clone, Copy)]
 pub struct Clock {
     pub time: Time,
 }

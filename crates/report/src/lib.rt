@@ -1,4 +1,6 @@
 // The text of a bench and its lent tables, written into a lent buffer.
+#![tactic(auto)]
+
 ghost use Rattle.std.specs.Prelude.{◌+◌, ◌*◌, ◌≤◌, length, take};
 ghost use Rattle.text.specs.Printed.{row_lines};
 ghost use Rattle.text.specs.Short.{ShortBench, ShortRows};

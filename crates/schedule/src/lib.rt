@@ -1,4 +1,6 @@
 // A schedule on a bench: the events of a file, carried out one after another on two lent tables; and a whole file, from its first byte.
+#![tactic(auto)]
+
 ghost use Rattle.std.specs.Prelude.{◌≡◌, true, length};
 ghost use Rattle.state.specs.Tabled.{tabled};
 ghost use Rattle.schedule.specs.Opening.{run_reply, run_messages, run_rows};
@@ -16,7 +18,7 @@ mod turns;
 const FIRST_EVENT: usize = 7;
 
 // What one turn comes to: whether the run goes on, and at which place; the number of refusal, and the bench.
-#[derive(Drop)]
+#[derive(Clone, Copy)]
 pub struct Turn {
     pub go: bool,
     pub refusal: u8,

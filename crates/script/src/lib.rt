@@ -1,4 +1,5 @@
 // The text of a schedule, read: lines, words and numbers, and the file that the text stands for.
+#![tactic(auto)]
 
 mod fields;
 mod heads;
@@ -9,7 +10,7 @@ mod numbers;
 use state::Event;
 
 // What is wrong with a line.
-#[derive(Drop)]
+#[derive(Clone, Copy)]
 pub enum Fault {
     Unknown,
     Missing,
@@ -23,7 +24,7 @@ pub enum Fault {
 }
 
 // What a line says.
-#[derive(Drop)]
+#[derive(Clone, Copy)]
 pub enum Line {
     Blank,
     Bench(u8, u8),
@@ -32,14 +33,14 @@ pub enum Line {
 }
 
 // A word as a number, and as a value with a sign.
-#[derive(Drop)]
+#[derive(Clone, Copy)]
 pub enum Figure {
     Is(u64),
     NotANumber,
     TooLarge,
 }
 
-#[derive(Drop)]
+#[derive(Clone, Copy)]
 pub enum Amount {
     Is(i64),
     NotANumber,
@@ -47,7 +48,7 @@ pub enum Amount {
 }
 
 // What the first word of a line is.
-#[derive(Drop)]
+#[derive(Clone, Copy)]
 pub enum Head {
     Bench,
     Read,
@@ -59,27 +60,27 @@ pub enum Head {
 }
 
 // A word's place in a line: it starts at one place and ends before another. The two are equal where there is none.
-#[derive(Drop)]
+#[derive(Clone, Copy)]
 pub struct Span {
     pub start: usize,
     pub end: usize,
 }
 
 // A number taken off the front of a line, and the place behind it.
-#[derive(Drop)]
+#[derive(Clone, Copy)]
 pub enum Taken {
     Number(u64, usize),
     Wrong(Fault),
 }
 
 // Two numbers below 256, likewise; and a value.
-#[derive(Drop)]
+#[derive(Clone, Copy)]
 pub enum Pairing {
     Numbers(u8, u8, usize),
     Wrong(Fault),
 }
 
-#[derive(Drop)]
+#[derive(Clone, Copy)]
 pub enum Valued {
     Value(i64, usize),
     Wrong(Fault),

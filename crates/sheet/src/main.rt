@@ -1,4 +1,6 @@
 // The program: one sheet over the schedules in the files that its arguments name, read one after another.
+#![tactic(auto)]
+
 use figures::Sheet;
 use libc::{STDERR_FILENO, STDOUT_FILENO};
 
@@ -6,14 +8,14 @@ use libc::{STDERR_FILENO, STDOUT_FILENO};
 const FILES_A_LINE: usize = 1000;
 
 // The sheet after a file, and whether the file could be read.
-#[derive(Drop)]
+#[derive(Clone, Copy)]
 struct Turn {
     sheet: Sheet,
     read: bool,
 }
 
 // The sheet after all files, and how many of them could not be read.
-#[derive(Drop)]
+#[derive(Clone, Copy)]
 struct Work {
     sheet: Sheet,
     unread: usize,

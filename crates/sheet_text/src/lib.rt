@@ -1,4 +1,6 @@
 // The text of a monthly sheet, written into a lent buffer.
+#![tactic(auto)]
+
 ghost use Rattle.std.specs.Prelude.{◌≡◌, ◌≤◌, length, take};
 ghost use Rattle.sheet_text.specs.SheetText.{print_reply, print_left};
 

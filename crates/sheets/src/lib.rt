@@ -1,4 +1,6 @@
 // A monthly sheet in exact numbers: what many schedules come to, one added after another. A sheet goes by value; the tables of a schedule's run are made here and given up.
+#![tactic(auto)]
+
 ghost use Rattle.std.specs.Prelude.{◌≡◌, ◌≤◌, length, take};
 ghost use Rattle.figures.specs.Figures.{history_of};
 ghost use Rattle.sheets.specs.Sheet.{added_by, added};

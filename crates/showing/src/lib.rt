@@ -1,4 +1,6 @@
 // The text of a schedule file: its bytes in, a line for each event out, into a lent output.
+#![tactic(auto)]
+
 ghost use Rattle.std.specs.Prelude.{◌≡◌, ◌+◌, ◌-◌, ◌*◌, ◌≤◌, length};
 ghost use Rattle.text.specs.Written.{Wrote};
 ghost use Rattle.format.specs.Format.{file_refusal};

@@ -1,4 +1,6 @@
 // What each process is doing: down, idle, waiting or stuck. By value; whoever holds the tables tests them first.
+#![tactic(auto)]
+
 ghost use Rattle.std.specs.Prelude.{◌≡◌, ◌-◌, ◌≤◌, get_or, length};
 ghost use Rattle.state.specs.State.{fresh_replica};
 ghost use Rattle.standing.specs.Status.{status_of, standing_at, up_at, enough_up, standings_of, downs};
@@ -8,7 +10,7 @@ use replica::phases::is_idle;
 use state::Bench;
 use words::quorum::majority;
 
-#[derive(Drop)]
+#[derive(Clone, Copy)]
 pub enum Status {
     Down,
     Idle,
@@ -17,13 +19,13 @@ pub enum Status {
 }
 
 // An array holds structs, and no enums.
-#[derive(Drop)]
+#[derive(Clone, Copy)]
 pub struct Standing {
     pub status: Status,
 }
 
 // The reply: places behind N, and all of them where it is refused, read down.
-#[derive(Drop)]
+#[derive(Clone, Copy)]
 pub struct Statuses {
     pub refusal: u8,
     pub of: [Standing; 7],

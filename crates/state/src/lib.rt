@@ -1,10 +1,12 @@
 // The state of a bench, up to seven replicas joined by a table of messages, with a history of operations; and the events. The specs say what
 // an event does, what is well formed, and which states are reached. The code stands in the crate above.
+#![tactic(auto)]
+
 use replica::Replica;
 use words::Pid;
 
 // The counts, and the replicas. The messages in flight and the rows of the history lie in the two lent tables.
-#[derive(Drop)]
+#[derive(Clone, Copy)]
 pub struct Bench {
     pub n: u8,
     pub m: u8,
@@ -17,7 +19,7 @@ pub struct Bench {
     pub replicas: [Replica; 7],
 }
 
-#[derive(Drop)]
+#[derive(Clone, Copy)]
 pub enum Event {
     Read(Pid, u8),
     Write(Pid, u8, i64),
@@ -27,7 +29,7 @@ pub enum Event {
 }
 
 // The reply to an event: its number of refusal, 0 if it was accepted, and the bench.
-#[derive(Drop)]
+#[derive(Clone, Copy)]
 pub struct Stepped {
     pub refusal: u8,
     pub bench: Bench,

@@ -1,11 +1,13 @@
 // The two lent tables, of messages and of rows of the history, and the few thin functions over them. No rule of the method stands here:
 // what is stored is decided elsewhere, by value.
+#![tactic(auto)]
+
 ghost use Rattle.std.specs.Prelude.{◌≡◌, ◌+◌, ◌≤◌, ◌<◌, ◌∷◌, ◌++◌, length, get_or, set, take, drop, replicate};
 ghost use Rattle.tables.specs.Tables.{empty_message, nobody, empty_row, seek, removed, following, copies, laid_at};
 
 use words::{Body, Message, Pid, Rid, Stamp, Time};
 
-#[derive(Drop)]
+#[derive(Clone, Copy)]
 pub enum Kind {
     Read,
     Write,
@@ -13,14 +15,14 @@ pub enum Kind {
 
 // Who replied: the processes whose replies ended the query phase, and those whose replies ended the update phase, a byte each (process i is
 // bit i). Nobody until that phase ends.
-#[derive(Drop)]
+#[derive(Clone, Copy)]
 pub struct Replied {
     pub query: u8,
     pub update: u8,
 }
 
 // Fields lie in memory as they are written: what is of one byte comes first, and a row has 32.
-#[derive(Drop)]
+#[derive(Clone, Copy)]
 pub struct Row {
     pub process: Pid,
     pub kind: Kind,
@@ -32,7 +34,7 @@ pub struct Row {
     pub value: i64,
 }
 
-#[derive(Drop)]
+#[derive(Clone, Copy)]
 pub enum Found {
     At(usize),
     Missing,

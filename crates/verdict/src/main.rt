@@ -1,4 +1,6 @@
 // The program: a history file from standard input; to standard output `accepted`, or `refused` and the number.
+#![tactic(auto)]
+
 use libc::{STDERR_FILENO, STDIN_FILENO, STDOUT_FILENO};
 use text::lines::put_refusal;
 

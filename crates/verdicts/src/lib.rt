@@ -1,5 +1,7 @@
 // Judges a history of another sharing layer: does the proposed order explain it? The bytes of the file in, a number out: 0 for yes, else the first number of refusal that holds.
 // Each number is one pass over the rows or over the order, with a table of what was met on the way; so the work grows as the file does.
+#![tactic(auto)]
+
 ghost use Rattle.std.specs.Prelude.{◌≡◌, true, ◌+◌, ◌*◌, ◌≤◌, length};
 ghost use Rattle.verdicts.specs.Verdict.{rows_from, numbers_from, inside, first, row_count, rows_in, order_in, judged_known, judged, verdict_of};
 ghost use Rattle.verdicts.specs.Sized.{Sized};

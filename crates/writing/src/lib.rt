@@ -1,4 +1,6 @@
 // The schedule file, from N, M and a lent list of events to bytes in a lent output.
+#![tactic(auto)]
+
 ghost use Rattle.std.specs.Prelude.{◌≡◌, ◌+◌, ◌≤◌, ◌<◌, length, get_or};
 ghost use Rattle.text.specs.Written.{Wrote};
 ghost use Rattle.writing.specs.Bytes.{events_bytes, file_bytes, no_event};
@@ -11,7 +13,7 @@ pub mod file;
 mod numbers;
 
 // The reply of the writer: its number of refusal, 0 if the file was written, and how many bytes the file has.
-#[derive(Drop)]
+#[derive(Clone, Copy)]
 pub struct Filed {
     pub refusal: u8,
     pub size: usize,
