@@ -5,11 +5,11 @@ use Rattle.state.specs.State.{State}
 use Rattle.state.specs.Reached.{Reached}
 use Rattle.order.specs.Operations.{order_of}
 use Rattle.format.specs.Format.{file_refusal}
-use Rattle.format.specs.FileLaws.{file-opens}
+use Rattle.format.proofs.FileLaws.{file-opens}
 use Rattle.schedule.specs.Opening.{ran_file}
-use Rattle.schedule.specs.FileLaws.{file-reached}
+use Rattle.schedule.proofs.FileLaws.{file-reached}
 use Rattle.verdicts.specs.Verdict.{verdict_of}
-use Rattle.verdicts.specs.WrittenLaws.{written-accepts}
+use Rattle.verdicts.proofs.WrittenLaws.{written-accepts}
 use Rattle.histories.specs.OwnFile.{own_rows, file_of, own_file}
 use Rattle.recording.specs.Recording.{recorded}
 use Rattle.accepted.specs.OwnLaws.{own-explained, own-history}

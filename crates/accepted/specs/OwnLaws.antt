@@ -8,23 +8,23 @@ use Rattle.placing.specs.Sequential.{times}
 use Rattle.placing.specs.Sorting.{select}
 use Rattle.placing.specs.SortingLaws.{permuted-length, sort-permuted}
 use Rattle.placing.specs.OneOrder.{Entry, numbered, listing, placed, one_order}
-use Rattle.placing.specs.PlacedLaws.{precedes}
-use Rattle.placing.specs.RowLaws.{row_of}
+use Rattle.placing.proofs.PlacedLaws.{precedes}
+use Rattle.placing.proofs.RowLaws.{row_of}
 use Rattle.tables.specs.declared.Row.{Row}
 use Rattle.tables.specs.Tables.{empty_row}
 use Rattle.state.specs.State.{State}
 use Rattle.state.specs.Reached.{Reached}
-use Rattle.state.specs.Keeps.{reached-well-formed}
-use Rattle.state.specs.Sized.{reached-sized}
-use Rattle.state.specs.WellLaws.{Well, RowOk, well, row-at}
+use Rattle.state.proofs.Keeps.{reached-well-formed}
+use Rattle.state.proofs.Sized.{reached-sized}
+use Rattle.state.proofs.WellLaws.{Well, RowOk, well, row-at}
 use Rattle.order.specs.Operations.{operation_of, operations_of, order_of}
-use Rattle.consistency.specs.Demand3.{sequential}
-use Rattle.consistency.specs.FactsLaws.{facts}
+use Rattle.consistency.proofs.Demand3Laws.{sequential}
+use Rattle.consistency.proofs.FactsLaws.{facts}
 use Rattle.verdicts.specs.Explains.{Row as JudgedRow, Completed, row_at, Explains}
 use Rattle.verdicts.specs.File.{Formed, History}
 use Rattle.verdicts.specs.Operations.{as_row}
-use Rattle.verdicts.specs.RowLaws.{row_inside}
-use Rattle.verdicts.specs.SequentialLaws.{sequential-explains, behind}
+use Rattle.verdicts.proofs.RowLaws.{row_inside}
+use Rattle.verdicts.proofs.SequentialLaws.{sequential-explains, behind}
 use Rattle.histories.specs.OwnFile.{bits_of, own_rows}
 
 -- ---- the one order is no longer than the history

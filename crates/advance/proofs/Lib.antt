@@ -11,3 +11,5 @@ pub mod Line
 pub mod Soughts
 pub mod Steppeds
 pub mod Works
+pub mod Advances
+pub mod TabledLaws

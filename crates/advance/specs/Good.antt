@@ -18,7 +18,7 @@ use Rattle.tables.specs.declared.Kind.TheVariants.{Read, Write}
 use Rattle.tables.specs.declared.Row.{Row}
 use Rattle.tables.specs.Tables.{empty_message, empty_row}
 use Rattle.state.specs.declared.Bench.{Bench}
-use Rattle.state.specs.EveryLaws.{every-at}
+use Rattle.state.proofs.EveryLaws.{every-at}
 use Rattle.state.specs.Needed.{needed}
 use Rattle.state.specs.State.{State, fresh_replica, replica_of, view, laid_messages, laid_rows}
 use Rattle.state.specs.Tabled.{tabled, lengths_fit, is_empty_body, is_empty_message, is_empty_row, bench_of}

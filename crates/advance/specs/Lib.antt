@@ -9,5 +9,3 @@ pub mod Good
 pub mod Steps
 pub mod Answers
 pub mod StepLaws
-pub mod Advances
-pub mod TabledLaws

@@ -4,7 +4,7 @@ use Rattle.std.proofs.Common.{sym, ap, ◌∙◌, arith, append_assoc, length-ap
 use Rattle.std.proofs.Math.Seq.{take-append_seam, drop-append_seam, drop-append-add, set-append_seam}
 use Rattle.std.proofs.lemmas.List.{set-append_left}
 use Rattle.tables.specs.Tables.{removed, laid_at}
-use Rattle.state.specs.EveryLaws.{length_removed, get_or-empty}
+use Rattle.state.proofs.EveryLaws.{length_removed, get_or-empty}
 
 module _ {A : Type 0} where
   -- the first places of a table of so many

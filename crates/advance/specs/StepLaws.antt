@@ -32,8 +32,8 @@ use Rattle.state.specs.State.{State, fresh_replica, replica_of, laid_messages, l
 use Rattle.state.specs.Step.{outcome, check, full, no_room, invoke_refusal, deliver_refusal, crash_refusal, read_row, write_row, completed, queried_row, moved, answered_rows, without_message, asked_register, heard_by, heard}
 use Rattle.state.specs.Step.{step, step_read, step_write, step_deliver, step_crash, step_lose, deliver_at, lose_at}
 use Rattle.state.specs.Tabled.{bench_of}
-use Rattle.state.specs.Accepted.{passed}
-use Rattle.state.specs.Sized.{answered-length}
+use Rattle.state.proofs.AcceptedLaws.{passed}
+use Rattle.state.proofs.Sized.{answered-length}
 use Rattle.decide.specs.Plan.{quiet_plan, refused_plan, accepted_plan, settled, number_by, row_by, register_asked, answer_by, answer_to, plan_of, read_plan, write_plan, deliver_plan, crash_plan, lose_plan}
 use Rattle.advance.specs.declared.Known.{Known}
 use Rattle.advance.specs.declared.Tally.{Tally}

@@ -19,7 +19,7 @@ use Rattle.state.specs.declared.Bench.{Bench}
 use Rattle.state.specs.State.{State, laid_messages, laid_rows}
 use Rattle.state.specs.Step.{Outcome, outcome, posted, moved, without_message}
 use Rattle.state.specs.Tabled.{bench_of}
-use Rattle.state.specs.KeepsMoved.{posted-length}
+use Rattle.state.proofs.KeepsMoved.{posted-length}
 use Rattle.decide.specs.declared.Plan.{Plan}
 use Rattle.decide.specs.Plan.{first_of, quiet_plan, refused_plan, accepted_plan, settled}
 use Rattle.advance.specs.declared.Tally.{Tally}

@@ -3,3 +3,5 @@ pub mod Callees
 pub mod StepCalls
 pub mod OfOrdered
 pub mod OrderCalls
+pub mod ReplyLaws
+pub mod ListingLaws

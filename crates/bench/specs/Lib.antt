@@ -5,5 +5,3 @@ pub mod Listing
 -- Laws
 pub mod StartLaws
 pub mod TabledUse
-pub mod ReplyLaws
-pub mod ListingLaws

@@ -6,10 +6,10 @@ use Rattle.tables.specs.declared.Row.{Row}
 use Rattle.state.specs.declared.Bench.{Bench}
 use Rattle.state.specs.State.{view}
 use Rattle.state.specs.Tabled.{tabled}
-use Rattle.state.specs.WellLaws.{Well, well}
+use Rattle.state.proofs.WellLaws.{Well, well}
 use Rattle.standing.specs.Status.{statuses, standings_of, downs}
-use Rattle.standing.specs.StatusLaws.{statuses-same}
-use Rattle.advance.specs.TabledLaws.{tabled-well}
+use Rattle.standing.proofs.StatusLaws.{statuses-same}
+use Rattle.advance.proofs.TabledLaws.{tabled-well}
 
 where-true : {A : Type 0} (t : Bool) (x y z : A) → (t ≡ true → x ≡ y) → cond t x z ≡ cond t y z
 where-true true x y z h = h refl

@@ -1,2 +1,3 @@
 pub mod CallsMutRef
 pub mod Ends
+pub mod PrintingLaws

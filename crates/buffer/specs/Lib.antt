@@ -1,4 +1,2 @@
 -- What a reader has to believe
 pub mod Printing
--- Laws
-pub mod PrintingLaws

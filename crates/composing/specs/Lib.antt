@@ -4,6 +4,3 @@ pub mod Complaint
 pub mod Composed
 -- Between the functions
 pub mod Passes
--- Laws
-pub mod ComposeLaws
-pub mod PassLaws

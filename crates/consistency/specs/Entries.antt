@@ -6,7 +6,7 @@ use Rattle.placing.specs.Operation.{Operation, Kind}
 use Rattle.placing.specs.OneOrder.{Entry}
 use Rattle.placing.specs.Sequential.{row_at}
 use Rattle.placing.specs.Facts.{Row as IsRow}
-use Rattle.placing.specs.RowLaws.{row-at, row_of}
+use Rattle.placing.proofs.RowLaws.{row-at, row_of}
 use Rattle.tables.specs.declared.Kind.{Kind as RowKind}
 use Rattle.tables.specs.declared.Kind.TheVariants.{Read, Write}
 use Rattle.tables.specs.declared.Row.{Row}

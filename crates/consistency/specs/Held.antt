@@ -6,7 +6,7 @@ use Rattle.std.proofs.Math.Decide.{dec_le}
 use Rattle.std.proofs.lemmas.Bool.{lt-leb}
 use Rattle.words.specs.declared.Stamp.{Stamp}
 use Rattle.words.specs.Stamps.{start_stamp}
-use Rattle.words.specs.StampLaws.{AtMost, at_most-reflexive, at_most-transitive}
+use Rattle.words.proofs.StampLaws.{AtMost, at_most-reflexive, at_most-transitive}
 use Rattle.replica.specs.declared.Replica.{Replica}
 use Rattle.replica.specs.Handlers.{stored}
 use Rattle.state.specs.State.{State, replica_of}

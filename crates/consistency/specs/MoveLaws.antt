@@ -29,8 +29,8 @@ use Rattle.moves.specs.Move.{Move as EventMove, Begins, Delivers, Responds as Re
 use Rattle.moves.specs.Move.{clock_then, repliers_then, hearing, counting as counting_by, ending, replying, telling, arrived, down_now}
 use Rattle.moves.specs.Move.Move.{reads as reading, writes as writing, responds as responding, stores as storing, discards as discarding}
 use Rattle.moves.specs.Move.Move.{counts as counting, chooses as choosing, gathers as gathering, completes as completing, crashes, loses}
-use Rattle.moves.specs.MoveLaws.{moves as event-moves}
-use Rattle.moves.specs.PlacedLaws.{found_inside}
+use Rattle.moves.proofs.MoveLaws.{moves as event-moves}
+use Rattle.moves.proofs.PlacedLaws.{found_inside}
 use Rattle.consistency.specs.Unnamed.{unnamed, without_sets, row-unnamed, queried-unnamed, changed-unnamed, added-unnamed}
 use Rattle.consistency.specs.Moves.{Sent, Turn, Ready, Move, Responds, Acks}
 use Rattle.consistency.specs.Moves.Move.{rests, reads, writes, responds, stores, counts, chooses, gathers, completes}

@@ -1,2 +1,4 @@
 pub mod TwosComplement
 pub mod Whole
+pub mod FileLaws
+pub mod ParseLaws

@@ -1,5 +1,2 @@
 -- What a reader has to believe
 pub mod Format
--- Laws
-pub mod FileLaws
-pub mod ParseLaws

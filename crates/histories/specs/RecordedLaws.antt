@@ -7,7 +7,7 @@ use Rattle.order.specs.Operations.{operation_of, operations_of}
 use Rattle.text.specs.Written.{Wrote}
 use Rattle.text.specs.WrittenLaws.{and_next, as_text}
 use Rattle.verdicts.specs.File.{two, four, row_bytes, numbers_bytes, body, history_file}
-use Rattle.verdicts.specs.FileLaws.{body-length}
+use Rattle.verdicts.proofs.FileLaws.{body-length}
 use Rattle.verdicts.specs.Operations.{as_row}
 use Rattle.histories.specs.OwnFile.{bits_of, own_rows, file_of, head_text, rows_text, order_text, Recorded}
 

@@ -2,3 +2,4 @@ pub mod Callees
 pub mod CallsMut2Ref
 pub mod CallsMutShared
 pub mod Workers
+pub mod FlightLaws

@@ -14,7 +14,7 @@ use Rattle.replica.specs.declared.Replica.{Replica}
 use Rattle.tables.specs.declared.Row.{Row}
 use Rattle.state.specs.declared.Bench.{Bench}
 use Rattle.state.specs.Needed.{responses_needed}
-use Rattle.state.specs.NeededLaws.{needed-same}
+use Rattle.state.proofs.NeededLaws.{needed-same}
 use Rattle.state.specs.State.{State, view, row_of}
 use Rattle.state.specs.WellFormed.{every, counts_fit, body_fits, message_fits, rising, flight_fits, is_write, enough, row_fits, history_fits}
 use Rattle.state.specs.WellFormed.{pending_of, is_only, phase_fits, pairs_fit, replica_fits, each_fits, replicas_fit, well_formed}

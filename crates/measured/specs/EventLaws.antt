@@ -5,11 +5,11 @@ use Rattle.std.proofs.Common.{sym, subst, eq-eqb}
 use Rattle.std.proofs.Math.Path.{ap}
 use Rattle.state.specs.Reached.{Reached}
 use Rattle.state.specs.Counting.{Moment, Run, sent_over, delivered_over, lost_over, Counted}
-use Rattle.state.specs.CountingLaws.{run-counted, reached-run}
+use Rattle.state.proofs.CountingLaws.{run-counted, reached-run}
 use Rattle.format.specs.Format.{file_refusal}
-use Rattle.format.specs.FileLaws.{file-opens}
+use Rattle.format.proofs.FileLaws.{file-opens}
 use Rattle.schedule.specs.Opening.{ran_file}
-use Rattle.schedule.specs.FileLaws.{file-reached}
+use Rattle.schedule.proofs.FileLaws.{file-reached}
 use Rattle.figures.specs.declared.Traffic.{Traffic}
 use Rattle.figures.specs.declared.Entry.{Entry}
 use Rattle.figures.specs.Figures.{history_of, traffic_of, no_traffic}

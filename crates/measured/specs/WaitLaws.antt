@@ -8,10 +8,10 @@ use Rattle.tables.specs.declared.Row.{Row}
 use Rattle.tables.specs.Tables.{empty_row}
 use Rattle.state.specs.Reached.{Reached}
 use Rattle.format.specs.Format.{file_refusal}
-use Rattle.format.specs.FileLaws.{file-opens}
+use Rattle.format.proofs.FileLaws.{file-opens}
 use Rattle.schedule.specs.Opening.{ran_file}
-use Rattle.schedule.specs.FileLaws.{file-reached}
-use Rattle.consistency.specs.SoundLaws.{answered-later}
+use Rattle.schedule.proofs.FileLaws.{file-reached}
+use Rattle.consistency.proofs.SoundLaws.{answered-later}
 use Rattle.figures.specs.Figures.{is_complete}
 use Rattle.sheets.specs.Totals.{rows_of, Completed}
 

@@ -3,7 +3,7 @@ use Rattle.std.specs.Prelude.{ℕ, ◌-◌, ◌≤◌, ◌≡◌, ◌≢◌, len
 use Rattle.std.proofs.Common.{arith, get_or-set_same, get_or-set_other}
 use Rattle.replica.specs.declared.Replica.{Replica}
 use Rattle.state.specs.State.{State, fresh, fresh_replica, replica_of}
-use Rattle.state.specs.EveryLaws.{get_or-empty}
+use Rattle.state.proofs.EveryLaws.{get_or-empty}
 
 pub fresh-replica : (n m p : ℕ) → replica_of (fresh n m) p ≡ fresh_replica
 fresh-replica n m p = get_or-empty 7 (p - 1) fresh_replica

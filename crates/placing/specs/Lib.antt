@@ -11,15 +11,3 @@ pub mod LexLaws
 pub mod Pairs
 pub mod Splitting
 pub mod SortingLaws
--- Laws of rows, points and the one order; the theorem.
-pub mod RowLaws
-pub mod StampKeys
-pub mod PointLaws
-pub mod PlacedLaws
-pub mod AnsweredFirst
-pub mod ReadLaws
-pub mod OrderLaws
-pub mod Placing
--- Small histories.
-pub mod Examples
-pub mod FactsExamples

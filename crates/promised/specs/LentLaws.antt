@@ -12,15 +12,15 @@ use Rattle.state.specs.declared.Event.{Event}
 use Rattle.state.specs.State.{State, view, fresh}
 use Rattle.state.specs.Step.{check, step}
 use Rattle.state.specs.Tabled.{tabled, bench_of}
-use Rattle.state.specs.Keeps.{reached-well-formed}
-use Rattle.state.specs.Sized.{reached-sized}
+use Rattle.state.proofs.Keeps.{reached-well-formed}
+use Rattle.state.proofs.Sized.{reached-sized}
 use Rattle.state.specs.Reached.{Reached, start, next}
-use Rattle.advance.specs.TabledLaws.{Holds, holds-tabled, holds-view}
+use Rattle.advance.proofs.TabledLaws.{Holds, holds-tabled, holds-view}
 use Rattle.order.specs.Operations.{order_of}
 use Rattle.bench.specs.Start.{started_by, start_reply}
 use Rattle.bench.specs.Reply.{step_reply, step_messages, step_rows}
 use Rattle.bench.specs.Listing.{list_reply, list_left}
-use Rattle.consistency.specs.Demand3.{sequential, real_time}
+use Rattle.consistency.proofs.Demand3Laws.{sequential, real_time}
 use Rattle.promised.specs.Lent.{Lent, started, stepped, history, Explained}
 
 -- ---- what `start` and `step` leave holds a state that was reached

@@ -6,7 +6,7 @@ use Rattle.state.specs.declared.Bench.{Bench}
 use Rattle.state.specs.declared.Stepped.{Stepped}
 use Rattle.state.specs.State.{view}
 use Rattle.schedule.specs.Run.{ran}
-use Rattle.schedule.specs.RunLaws.{run-reached}
+use Rattle.schedule.proofs.RunLaws.{run-reached}
 use Rattle.schedule.specs.Turns.{RanOn}
 use Rattle.promised.specs.Lent.{Lent, Explained}
 use Rattle.promised.specs.LentLaws.{Tells, tells, lent, explained}

@@ -1,4 +1,2 @@
 -- What a reader has to believe: the history file of a schedule.
 pub mod Recording
--- Laws that the code's proofs cite.
-pub mod RecordingLaws

@@ -1,3 +1,4 @@
 pub mod MutRef2
 pub mod Shared
 pub mod Callees
+pub mod ReplayedLaws

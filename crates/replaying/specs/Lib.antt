@@ -1,4 +1,2 @@
 -- What a reader has to believe
 pub mod Replayed
--- Laws
-pub mod ReplayedLaws

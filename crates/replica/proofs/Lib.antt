@@ -1,2 +1,3 @@
 pub mod Clocks
 pub mod Lent
+pub mod HandlerLaws

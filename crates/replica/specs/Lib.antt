@@ -7,4 +7,3 @@ pub mod Numbers
 -- Laws
 pub mod ClockLaws
 pub mod RangeLaws
-pub mod HandlerLaws

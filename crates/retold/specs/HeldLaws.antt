@@ -6,7 +6,7 @@ use Rattle.format.specs.declared.Parse.{Parse}
 use Rattle.format.specs.declared.Parse.TheVariants.{Next, Refused, End}
 use Rattle.format.specs.Format.{byte_at, word_at, value_of, whole, event_at}
 use Rattle.writing.specs.Held.{Bytes, Held, HeldAll}
-use Rattle.writing.specs.NumberLaws.{word_below, value-fits}
+use Rattle.writing.proofs.NumberLaws.{word_below, value-fits}
 use Rattle.writing.specs.Reading.{Reading, turned, read_from, read_out}
 
 abbrev HeldIn : Parse → Type 0

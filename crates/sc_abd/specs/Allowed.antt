@@ -16,10 +16,11 @@ use Rattle.tables.specs.Tables.{seek, removed}
 use Rattle.state.specs.State.{State, replica_of}
 use Rattle.state.specs.Step.{Outcome, outcome, check, full, no_room, invoke_refusal, deliver_refusal, crash_refusal, lose_refusal}
 use Rattle.state.specs.Step.{moved, without_message, read_row, write_row, answered_rows, step_read, step_write, step_deliver, step_crash, step_lose}
-use Rattle.state.specs.Accepted.{Invoked, Crashable, message_at, recipient_at, plain, read_next, write_next, deliver_next, crash_next}
-use Rattle.state.specs.Inside.{read_plain, write-plain, crash-plain, delivered-plain}
-use Rattle.state.specs.PairLaws.{ok-within}
-use Rattle.state.specs.WellLaws.{Well}
+use Rattle.state.specs.Accepted.{message_at, recipient_at, plain, read_next, write_next, deliver_next, crash_next}
+use Rattle.state.proofs.AcceptedLaws.{Invoked, Crashable}
+use Rattle.state.proofs.Inside.{read_plain, write-plain, crash-plain, delivered-plain}
+use Rattle.state.proofs.PairLaws.{ok-within}
+use Rattle.state.proofs.WellLaws.{Well}
 use Rattle.sc_abd.specs.Answers.{Answers, plain-answers}
 use Rattle.sc_abd.specs.Answers.Answers.{replies, stores, discards, asks, chooses, waits, ends}
 

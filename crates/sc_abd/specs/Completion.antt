@@ -27,11 +27,11 @@ use Rattle.state.specs.Needed.{acks_needed, needed}
 use Rattle.state.specs.State.{State, row_of}
 use Rattle.state.specs.Step.{answered_rows, queried_row, completed, step}
 use Rattle.state.specs.Accepted.{message_at, recipient_at, plain, deliver_next}
-use Rattle.state.specs.Accepted.{read-accepted, write-accepted, deliver-accepted, crash-accepted, lose-accepted}
-use Rattle.state.specs.PairLaws.{Within}
-use Rattle.state.specs.PendingLaws.{pending-within, pending-process}
+use Rattle.state.proofs.AcceptedLaws.{read-accepted, write-accepted, deliver-accepted, crash-accepted, lose-accepted}
+use Rattle.state.proofs.PairLaws.{Within}
+use Rattle.state.proofs.PendingLaws.{pending-within, pending-process}
 use Rattle.state.specs.WellFormed.{pending_of}
-use Rattle.state.specs.WellLaws.{MessageOk, PhaseOk, ReplicaOk, Well, message-at}
+use Rattle.state.proofs.WellLaws.{MessageOk, PhaseOk, ReplicaOk, Well, message-at}
 use Rattle.sc_abd.specs.Answers.{is_majority, Answers, plain-answers}
 use Rattle.sc_abd.specs.Answers.Answers.{replies, stores, discards, asks, chooses, waits, ends}
 use Rattle.sc_abd.specs.Numbering.{found-place}

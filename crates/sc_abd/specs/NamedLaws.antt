@@ -18,12 +18,12 @@ use Rattle.state.specs.State.{State, fresh, replica_of, row_of}
 use Rattle.state.specs.Step.{step}
 use Rattle.state.specs.Counting.{Moment, Run}
 use Rattle.state.specs.Counting.RunBy.{begun as fresh-run, then}
-use Rattle.state.specs.CountingLaws.{run-reached}
-use Rattle.state.specs.Keeps.{reached-well-formed}
-use Rattle.state.specs.PairLaws.{Within}
+use Rattle.state.proofs.CountingLaws.{run-reached}
+use Rattle.state.proofs.Keeps.{reached-well-formed}
+use Rattle.state.proofs.PairLaws.{Within}
 use Rattle.state.specs.WellFormed.{enough, is_write}
-use Rattle.state.specs.WellLaws.{Well, well, row-at, RowOk}
-use Rattle.moves.specs.MoveLaws.{moves}
+use Rattle.state.proofs.WellLaws.{Well, well, row-at, RowOk}
+use Rattle.moves.proofs.MoveLaws.{moves}
 use Rattle.moves.specs.Places.{fresh-replica}
 use Rattle.moves.specs.Stages.{Stage, stage_of}
 use Rattle.sc_abd.specs.Replied.{longer}

@@ -30,13 +30,13 @@ use Rattle.state.specs.Needed.{acks_needed}
 use Rattle.state.specs.State.{State, replica_of, row_of}
 use Rattle.state.specs.Step.{begun_row, read_row, write_row, queried_row, completed, without_message}
 use Rattle.state.specs.Accepted.{message_at, recipient_at}
-use Rattle.state.specs.PairLaws.{Within}
-use Rattle.state.specs.PendingLaws.{pending-first, pending-within}
+use Rattle.state.proofs.PairLaws.{Within}
+use Rattle.state.proofs.PendingLaws.{pending-first, pending-within}
 use Rattle.state.specs.WellFormed.{enough, pending_of}
-use Rattle.state.specs.WellLaws.{PhaseOk, Well, message-at, row-at}
+use Rattle.state.proofs.WellLaws.{PhaseOk, Well, message-at, row-at}
 use Rattle.moves.specs.Move.{Begins, Responds, Acks, Discarded, new_row, next_clock, beginning, asking, begun, written_by, Move, clock_then, repliers_then, hearing, counting, ending, replying, telling, arrived, down_now}
 use Rattle.moves.specs.Move.Move.{reads, writes, responds, stores, discards, counts, chooses, gathers, completes, crashes, loses}
-use Rattle.moves.specs.PlacedLaws.{found_inside}
+use Rattle.moves.proofs.PlacedLaws.{found_inside}
 use Rattle.moves.specs.Stages.{Stage, is_reply, stage_of, stage_for}
 use Rattle.sc_abd.specs.Named.{named}
 use Rattle.sc_abd.specs.NamedKept.{Counts, Learns, Heard, is_delivery, not-delivered, counts-place, still-learns, begun-learns, counting-learns, ending-learns, Known}

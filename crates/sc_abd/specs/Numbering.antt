@@ -8,8 +8,8 @@ use Rattle.tables.specs.Tables.{empty_message, seek}
 use Rattle.state.specs.State.{State}
 use Rattle.state.specs.WellFormed.{rising}
 use Rattle.state.specs.Accepted.{message_at}
-use Rattle.state.specs.WellLaws.{Well}
-use Rattle.state.specs.Accepted.{InFlight}
+use Rattle.state.proofs.WellLaws.{Well}
+use Rattle.state.proofs.AcceptedLaws.{InFlight}
 
 module _ (below most : ℕ) (m : Message) (rest : List Message) (e : rising below most (m ∷ rest) ≡ true) where
   rising-head : below < m.number

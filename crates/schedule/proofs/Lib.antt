@@ -4,3 +4,8 @@ pub mod Callees
 pub mod Mut2Ref
 pub mod FileCalls
 pub mod Ends
+pub mod RunLaws
+pub mod TurnLaws
+pub mod OpeningLaws
+pub mod FileLaws
+pub mod Examples

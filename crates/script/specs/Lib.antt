@@ -5,7 +5,5 @@ pub mod Numbers
 pub mod Places
 -- Laws
 pub mod FigureLaws
-pub mod LineLaws
-pub mod MeaningLaws
 pub mod NumberLaws
 pub mod ScanLaws

@@ -35,12 +35,3 @@ unfoldable pub made_up : State → Event → Outcome
 made_up s e =
     let honest = step (one_fewer s) e in
     record { refusal = honest.refusal; state = cond (eqb honest.refusal 0) (one_more honest.state) s }
-
--- a crash sends nothing, and the count is 1
-pub made_up-miscounts : CountingRule made_up → ⊥
-unfolding made_up step step_crash crashed crash_refusal crash_rule down_refusal
-made_up-miscounts rule =
-    let fall : Event = Crash (record { 0 = 1 }) in
-    let counted = rule (made_up (fresh 1 1) fall).state _ (then (fresh 1 1) fall [] (begun 1 1 refl refl) refl) in
-    let one : ◌≡◌ {A = ℕ} 1 0 = counted.sent in
-    omega arith

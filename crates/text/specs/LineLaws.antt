@@ -11,7 +11,7 @@ use Rattle.tables.specs.declared.Kind.TheVariants.{Read, Write}
 use Rattle.tables.specs.declared.Row.{Row}
 use Rattle.state.specs.State.{fresh_replica, State, replica_of, view}
 use Rattle.state.specs.declared.Bench.{Bench}
-use Rattle.state.specs.EveryLaws.{get_d_default}
+use Rattle.state.proofs.EveryLaws.{get_d_default}
 use Rattle.text.specs.Lines.{pair_text, is_blank, blank_text, row_head, row_rest, reg_text, reg_texts}
 use Rattle.text.specs.Lines.{proc_texts, store_texts, run_text, proc_text, count_text, tail_text}
 use Rattle.text.specs.Printed.{number, field, dash, answered, ending, row_line, reg_line, reg_lines, proc_line}

@@ -7,5 +7,3 @@ pub mod Rank
 -- Laws
 pub mod QuorumLaws
 pub mod RangeLaws
-pub mod StampLaws
-pub mod RankLaws

@@ -2,3 +2,11 @@ pub mod Callees
 pub mod OfEvent
 pub mod OfFiled
 pub mod Workers
+pub mod EventsLaws
+pub mod FrontLaws
+pub mod NumberLaws
+pub mod RoundTripLaws
+pub mod SizeLaws
+pub mod StrideLaws
+pub mod TurnLaws
+pub mod WritingLaws

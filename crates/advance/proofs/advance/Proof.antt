@@ -55,7 +55,7 @@ use types.Kit.{Go, Seq, at_ret, runs}
 use Rattle.advance.proofs.Ends.{arrives12, leaves12}
 use Rattle.state.specs.Tabled.{tabled}
 use Rattle.advance.specs.Advanced.{Advanced}
-use Rattle.advance.specs.Advances.{bounded, flight-within}
+use Rattle.advance.proofs.Advances.{bounded, flight-within}
 use Rattle.advance.specs.contracts.advance.Key.{name as #advance·advance}
 use Rattle.advance.specs.contracts.advance as advance
 use Rattle.advance.proofs.advance.Statement as stated

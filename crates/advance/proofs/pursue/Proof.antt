@@ -55,7 +55,7 @@ use types.Kit.{Go, Seq, at_ret, runs}
 use Rattle.advance.proofs.Ends.{arrives13, leaves13}
 use Rattle.state.specs.Tabled.{tabled}
 use Rattle.advance.specs.Advanced.{Advanced}
-use Rattle.advance.specs.Advances.{bounded, ready, done as steps}
+use Rattle.advance.proofs.Advances.{bounded, ready, done as steps}
 use Rattle.advance.specs.Parts.{asked_in}
 use Rattle.advance.specs.contracts.pursue.Key.{name as #advance·pursue}
 use Rattle.advance.specs.contracts.pursue as pursue

@@ -65,7 +65,7 @@ use Rattle.tables.proofs.Flow.{ifs, falls}
 use Rattle.judge.proofs.TabledCall.{IsTabled}
 use Rattle.bench.specs.declared.Ordered.{Ordered}
 use Rattle.bench.specs.Listing.{can_list}
-use Rattle.bench.specs.ListingLaws.{Listed, can-formed, can-long, rows-1024, count-1024, rows-ranged, was-listed, was-not}
+use Rattle.bench.proofs.ListingLaws.{Listed, can-formed, can-long, rows-1024, count-1024, rows-ranged, was-listed, was-not}
 use Rattle.bench.proofs.OfOrdered.{R as ROrdered, val as val_ordered, vals as vals_ordered, typed as typed_ordered, makes as makes_ordered}
 use Rattle.bench.proofs.OrderCalls.{FillOrder, CanList, Listing, NoListing, calls-fill-order, calls-can-list, calls-listing, calls-no-listing}
 use Rattle.bench.specs.contracts.order.Key.{name as #bench·order}

@@ -55,7 +55,7 @@ use Rattle.state.specs.declared.Stepped.{Stepped}
 use Rattle.state.specs.Tabled.{tabled}
 use Rattle.tables.proofs.Flow.{ifs, falls}
 use Rattle.judge.proofs.TabledCall.{IsTabled, calls-is-tabled}
-use Rattle.bench.specs.ReplyLaws.{StepReplied, advanced-replied, refused-replied}
+use Rattle.bench.proofs.ReplyLaws.{StepReplied, advanced-replied, refused-replied}
 use Rattle.advance.proofs.Steppeds.{R as RStepped, val as val_stepped, vals as vals_stepped, typed as typed_stepped, makes as makes_stepped}
 use Rattle.bench.proofs.StepCalls.{Advances, Refused, calls-advance, calls-refused}
 use Rattle.bench.specs.contracts.step.Key.{name as #bench·step}

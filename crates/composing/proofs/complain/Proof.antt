@@ -1,6 +1,6 @@
 -- `composing::complain` meets its contract.
 use borrow.Author.Rules.{rules}
-use Rattle.buffer.specs.PrintingLaws.{long-reply, long-left, short-reply, short-left, none-fronts, long-fronts}
+use Rattle.buffer.proofs.PrintingLaws.{long-reply, long-left, short-reply, short-left, none-fronts, long-fronts}
 use Rattle.composing.specs.Complaint.{complaint}
 use Rattle.composing.proofs.complain.Statement.{statement}
 use Rattle.composing.proofs.complain.Tie as tie

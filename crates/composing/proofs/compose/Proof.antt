@@ -3,7 +3,7 @@ use mathlib.Core.Path.{refl, subst}
 use native.Mathlib.Omega.{arith}
 use Rattle.composing.specs.declared.Composed.TheVariants.{Wrong}
 use Rattle.composing.specs.Passes.{Opens}
-use Rattle.composing.specs.ComposeLaws.{composed-by, composed-fits}
+use Rattle.composing.proofs.ComposeLaws.{composed-by, composed-fits}
 use borrow.Author.Rules.{rules}
 use Rattle.composing.proofs.compose.Statement.{statement}
 use Rattle.composing.proofs.compose.Tie as tie

@@ -1,7 +1,7 @@
 -- `composing::compose_rest` meets its contract.
 use mathlib.Core.Path.{sym, ◌∙◌}
 use lib.ListN.{length}
-use Rattle.composing.specs.ComposeLaws.{survey-size, survey-filed, survey-wrong}
+use Rattle.composing.proofs.ComposeLaws.{survey-size, survey-filed, survey-wrong}
 use borrow.Author.Rules.{rules}
 use Rattle.composing.proofs.compose_rest.Statement.{statement}
 use Rattle.composing.proofs.compose_rest.Tie as tie

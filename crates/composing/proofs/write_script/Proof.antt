@@ -2,7 +2,7 @@
 use lib.ListN.{drop}
 use Rattle.script.specs.Lines.{lines}
 use Rattle.composing.specs.Passes.{events_in}
-use Rattle.composing.specs.ComposeLaws.{too_short, written_all}
+use Rattle.composing.proofs.ComposeLaws.{too_short, written_all}
 use borrow.Author.Rules.{rules}
 use Rattle.composing.proofs.write_script.Statement.{statement}
 use Rattle.composing.proofs.write_script.Tie as tie

@@ -1,6 +1,6 @@
 -- `inflight::flight` meets its contract.
 use borrow.Author.Rules.{rules}
-use Rattle.buffer.specs.PrintingLaws.{long-reply, long-left, short-reply, short-left, none-fronts, long-fronts}
+use Rattle.buffer.proofs.PrintingLaws.{long-reply, long-left, short-reply, short-left, none-fronts, long-fronts}
 use Rattle.inflight.specs.Flight.{in_flight}
 use Rattle.inflight.proofs.flight.Statement.{statement}
 use Rattle.inflight.proofs.flight.Tie as tie

@@ -74,7 +74,7 @@ use Rattle.tables.proofs.Messages.{copies, lawful}
 use Rattle.order.proofs.Local.{lends_local, local_back}
 use Rattle.text.specs.Written.{Wrote}
 use Rattle.inflight.specs.Flight.{in_flight}
-use Rattle.inflight.specs.FlightLaws.{begun, few-messages, in_table, text-written, text-refused}
+use Rattle.inflight.proofs.FlightLaws.{begun, few-messages, in_table, text-written, text-refused}
 use Rattle.inflight.specs.contracts.flight_into.Key.{name as #inflight·flight-into}
 use Rattle.inflight.specs.contracts.flight_into as flight-into
 use Rattle.inflight.proofs.flight_into.Statement as stated

@@ -55,7 +55,7 @@ use Rattle.tables.proofs.Flow.{whiles3, tests, leaves}
 use Rattle.text.specs.Written.{Wrote}
 use Rattle.text.specs.WrittenLaws.{and_next, as_text, nothing as Wrote-nothing}
 use Rattle.inflight.specs.Flight.{message_line, message_lines}
-use Rattle.inflight.specs.FlightLaws.{one-message}
+use Rattle.inflight.proofs.FlightLaws.{one-message}
 use Rattle.inflight.specs.contracts.put_messages.Key.{name as #inflight·put-messages}
 use Rattle.inflight.specs.contracts.put_messages as put-messages
 use Rattle.inflight.proofs.put_messages.Statement as stated

@@ -57,7 +57,7 @@ use Rattle.order.proofs.Local.{lends_local, local_back}
 use Rattle.order.proofs.Big.{big-lit}
 use Rattle.schedule.specs.Opening.{run_reply}
 use Rattle.inflight.specs.Flight.{messages_left}
-use Rattle.inflight.specs.FlightLaws.{messages-reply, messages-left}
+use Rattle.inflight.proofs.FlightLaws.{messages-reply, messages-left}
 use Rattle.inflight.specs.contracts.run_messages.Key.{name as #inflight·run-messages}
 use Rattle.inflight.specs.contracts.run_messages as run-messages
 use Rattle.inflight.proofs.run_messages.Statement as stated

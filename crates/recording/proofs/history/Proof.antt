@@ -1,5 +1,5 @@
 -- `recording::history` meets its contract.
-use Rattle.recording.specs.RecordingLaws.{long-reply, long-left, short-reply, short-left, none-fronts, long-fronts}
+use Rattle.recording.proofs.RecordingLaws.{long-reply, long-left, short-reply, short-left, none-fronts, long-fronts}
 use borrow.Author.Rules.{rules}
 use Rattle.recording.proofs.history.Statement.{statement}
 use Rattle.recording.proofs.history.Tie as tie

@@ -81,11 +81,11 @@ use Rattle.order.proofs.Big.{big-lit}
 use Rattle.bench.proofs.OrderCalls.{FillOrder, calls-fill-order}
 use Rattle.text.specs.Printed.{printed_refusal}
 use Rattle.text.specs.Written.{Wrote}
-use Rattle.replaying.specs.ReplayedLaws.{begun, order-asks, all_listed}
+use Rattle.replaying.proofs.ReplayedLaws.{begun, order-asks, all_listed}
 use Rattle.replaying.proofs.Shared.{shares, unshares}
 use Rattle.replaying.proofs.Callees.{RunHistory, PutRefusal, calls-run-history, calls-put-refusal}
 use Rattle.recording.specs.Recording.{recorded}
-use Rattle.recording.specs.RecordingLaws.{file-asks, file-written, file-refused}
+use Rattle.recording.proofs.RecordingLaws.{file-asks, file-written, file-refused}
 use Rattle.recording.specs.contracts.history_into.Key.{name as #recording·history-into}
 use Rattle.recording.specs.contracts.history_into as history-into
 use Rattle.recording.proofs.history_into.Statement as stated

@@ -1,5 +1,5 @@
 -- `replaying::replay` meets its contract.
-use Rattle.replaying.specs.ReplayedLaws.{long-reply, long-left, short-reply, short-left, none-fronts, long-fronts}
+use Rattle.replaying.proofs.ReplayedLaws.{long-reply, long-left, short-reply, short-left, none-fronts, long-fronts}
 use borrow.Author.Rules.{rules}
 use Rattle.replaying.proofs.replay.Statement.{statement}
 use Rattle.replaying.proofs.replay.Tie as tie

@@ -86,7 +86,7 @@ use Rattle.bench.proofs.OrderCalls.{FillOrder, calls-fill-order}
 use Rattle.text.specs.Printed.{printed_refusal}
 use Rattle.text.specs.Written.{Wrote}
 use Rattle.replaying.specs.Replayed.{replayed}
-use Rattle.replaying.specs.ReplayedLaws.{begun, order-asks, report-asks, all_listed, text-written, text-refused}
+use Rattle.replaying.proofs.ReplayedLaws.{begun, order-asks, report-asks, all_listed, text-written, text-refused}
 use Rattle.replaying.proofs.Shared.{shares, unshares}
 use Rattle.replaying.specs.contracts.replay_into.Key.{name as #replaying·replay-into}
 use Rattle.replaying.specs.contracts.replay_into as replay-into

@@ -57,9 +57,9 @@ use Rattle.tables.specs.Tables.{empty_message}
 use Rattle.tables.proofs.Messages.{copies, lawful}
 use Rattle.order.proofs.Local.{lends_local, local_back}
 use Rattle.schedule.specs.Opening.{run_reply, run_messages, run_rows}
-use Rattle.schedule.specs.FileLaws.{Played}
+use Rattle.schedule.proofs.FileLaws.{Played}
 use Rattle.replaying.specs.Replayed.{rows_left}
-use Rattle.replaying.specs.ReplayedLaws.{history-reply, history-left}
+use Rattle.replaying.proofs.ReplayedLaws.{history-reply, history-left}
 use Rattle.replaying.specs.contracts.run_history.Key.{name as #replaying·run-history}
 use Rattle.replaying.specs.contracts.run_history as run-history
 use Rattle.replaying.proofs.run_history.Statement as stated

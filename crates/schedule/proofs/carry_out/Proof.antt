@@ -73,7 +73,7 @@ use Rattle.state.specs.Tabled.{tabled}
 use Rattle.advance.specs.Advanced.{Advanced}
 use Rattle.advance.proofs.Callees.{Advances, calls-advance}
 use Rattle.schedule.specs.Turns.{is_next, went_on, Turned}
-use Rattle.schedule.specs.TurnLaws.{carried}
+use Rattle.schedule.proofs.TurnLaws.{carried}
 use Rattle.schedule.specs.contracts.carry_out.Key.{name as #schedule·carry-out}
 use Rattle.schedule.specs.contracts.carry_out as carry-out
 use Rattle.schedule.proofs.carry_out.Statement as stated

@@ -64,7 +64,7 @@ use Rattle.state.specs.Tabled.{tabled}
 use Rattle.tables.specs.TableLaws.{holds, fails}
 use Rattle.tables.proofs.Flow.{ifs, falls}
 use Rattle.schedule.specs.Turns.{stopped_at, Turned}
-use Rattle.schedule.specs.TurnLaws.{halted}
+use Rattle.schedule.proofs.TurnLaws.{halted}
 use Rattle.schedule.specs.contracts.one_event.Key.{name as #schedule·one-event}
 use Rattle.schedule.specs.contracts.one_event as one-event
 use Rattle.schedule.proofs.one_event.Statement as stated

@@ -72,7 +72,7 @@ use lib.ListN.{replicate}
 use Rattle.tables.specs.Tables.{empty_message, empty_row}
 use Rattle.tables.specs.TableLaws.{holds, fails}
 use Rattle.tables.proofs.Flow.{ifs, falls}
-use Rattle.schedule.specs.FileLaws.{Played, start-tabled, played, unplayed}
+use Rattle.schedule.proofs.FileLaws.{Played, start-tabled, played, unplayed}
 use Rattle.schedule.proofs.FileCalls.{Openings, IsOpens, BenchOfs, RunEvents, calls-opening, calls-is-open, calls-bench-of, calls-run-events}
 use Rattle.schedule.specs.contracts.run.Key.{name as #schedule·run}
 use Rattle.schedule.specs.contracts.run as run-file

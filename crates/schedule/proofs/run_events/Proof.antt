@@ -82,7 +82,7 @@ use Rattle.tables.proofs.Flow.{whiles3, tests, leaves}
 use Rattle.format.specs.Format.{event_at}
 use Rattle.schedule.specs.Run.{Ran, ran}
 use Rattle.schedule.specs.Turns.{RanOn, Turned}
-use Rattle.schedule.specs.TurnLaws.{measure, Going, begins, goes, smaller, ends}
+use Rattle.schedule.proofs.TurnLaws.{measure, Going, begins, goes, smaller, ends}
 use Rattle.schedule.specs.contracts.run_events.Key.{name as #schedule·run-events}
 use Rattle.schedule.specs.contracts.run_events as run-events
 use Rattle.schedule.proofs.run_events.Statement as stated

@@ -3,7 +3,7 @@ use mathlib.Core.Path.{ap, ◌∙◌}
 use borrow.Author.Rules.{rules}
 use Rattle.figures.specs.Figures.{added_or28}
 use Rattle.sheets.specs.Sheet.{added}
-use Rattle.sheets.specs.EntryLaws.{entry-below}
+use Rattle.sheets.proofs.EntryLaws.{entry-below}
 use Rattle.sheets.proofs.add.Statement.{statement}
 use Rattle.sheets.proofs.add.Tie as tie
 

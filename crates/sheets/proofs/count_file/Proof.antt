@@ -80,7 +80,7 @@ use Rattle.order.proofs.Big.{big-lit}
 use Rattle.replaying.proofs.Callees.{RunHistory, calls-run-history}
 use Rattle.replaying.proofs.Shared.{shares, unshares}
 use Rattle.sheets.specs.Sheet.{added_by}
-use Rattle.sheets.specs.EntryLaws.{used-fit, counted_is}
+use Rattle.sheets.proofs.EntryLaws.{used-fit, counted_is}
 use Rattle.sheets.specs.contracts.count_file.Key.{name as #sheets·count-file}
 use Rattle.sheets.specs.contracts.count_file as count-file
 use Rattle.sheets.proofs.count_file.Statement as stated

@@ -4,7 +4,7 @@ use mathlib.Core.Path.{◌≡◌, refl, sym, ◌∙◌}
 use native.Mathlib.Omega.{arith}
 use lib.ListN.{length}
 use borrow.Author.Rules.{rules}
-use Rattle.showing.specs.ShowLaws.{Shows, starts, room_for, nearer, goes_on, stops, ends}
+use Rattle.showing.proofs.ShowLaws.{Shows, starts, room_for, nearer, goes_on, stops, ends}
 use Rattle.showing.proofs.put_reading.Statement.{statement}
 use Rattle.showing.proofs.put_reading.Tie as tie
 

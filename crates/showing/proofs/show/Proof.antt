@@ -1,6 +1,6 @@
 -- `showing::show` meets its contract.
 use borrow.Author.Rules.{rules}
-use Rattle.buffer.specs.PrintingLaws.{long-reply, long-left, short-reply, short-left, none-fronts, long-fronts}
+use Rattle.buffer.proofs.PrintingLaws.{long-reply, long-left, short-reply, short-left, none-fronts, long-fronts}
 use Rattle.showing.specs.Shown.{shown}
 use Rattle.showing.proofs.show.Statement.{statement}
 use Rattle.showing.proofs.show.Tie as tie

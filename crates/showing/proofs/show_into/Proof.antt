@@ -2,8 +2,8 @@
 use mathlib.Core.Path.{sym, ◌∙◌}
 use native.Mathlib.Omega.{arith}
 use Rattle.text.specs.WrittenLaws.{and_next, as_text}
-use Rattle.writing.specs.RoundTripLaws.{opened}
-use Rattle.showing.specs.ShowLaws.{exactly, shown-refused, shown_read}
+use Rattle.writing.proofs.RoundTripLaws.{opened}
+use Rattle.showing.proofs.ShowLaws.{exactly, shown-refused, shown_read}
 use borrow.Author.Rules.{rules}
 use Rattle.showing.proofs.show_into.Statement.{statement}
 use Rattle.showing.proofs.show_into.Tie as tie

@@ -1,5 +1,5 @@
 -- `standing::replica_at` meets its contract.
-use Rattle.state.specs.EveryLaws.{get_d_default}
+use Rattle.state.proofs.EveryLaws.{get_d_default}
 use Rattle.state.specs.State.{fresh_replica}
 use Prim.Native.Nat.{◌-◌}
 use native.Mathlib.Omega.{arith}

@@ -5,7 +5,7 @@ use native.Mathlib.Omega.{arith}
 use borrow.Author.Rules.{rules}
 use borrow.Author.Tests.{not-true, not-false}
 use Rattle.verdicts.specs.Verdict.{numbers_from, zeros}
-use Rattle.verdicts.specs.PassLaws.{fresh-inside, order-room, judged-stale, judged-fresh}
+use Rattle.verdicts.proofs.PassLaws.{fresh-inside, order-room, judged-stale, judged-fresh}
 use Rattle.verdicts.proofs.judge.Statement.{statement}
 use Rattle.verdicts.proofs.judge.Tie as tie
 

@@ -4,8 +4,8 @@ use native.Mathlib.Omega.{arith}
 use borrow.Author.Rules.{rules}
 use borrow.Author.Tests.{not-true, not-false}
 use Rattle.verdicts.specs.Verdict.{row_count}
-use Rattle.verdicts.specs.FileLaws.{sized-tells}
-use Rattle.verdicts.specs.PassLaws.{verdict-unsized, verdict-unlaid, verdict-judged}
+use Rattle.verdicts.proofs.FileLaws.{sized-tells}
+use Rattle.verdicts.proofs.PassLaws.{verdict-unsized, verdict-unlaid, verdict-judged}
 use Rattle.verdicts.proofs.verdict.Statement.{statement}
 use Rattle.verdicts.proofs.verdict.Tie as tie
 

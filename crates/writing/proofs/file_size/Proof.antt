@@ -51,7 +51,7 @@ use lib.ListN.{take, length-append}
 use lib.Seq.{take-length, length-take-le}
 use Rattle.tables.proofs.Flow.{whiles3, tests, leaves}
 use Rattle.writing.specs.Bytes.{no_event, event_bytes, events_bytes}
-use Rattle.writing.specs.EventsLaws.{one-event, bytes_most}
+use Rattle.writing.proofs.EventsLaws.{one-event, bytes_most}
 use Rattle.writing.specs.contracts.file_size.Key.{name as #writing·file-size}
 use Rattle.writing.specs.contracts.file_size as file-size
 use Rattle.writing.proofs.file_size.Statement as stated

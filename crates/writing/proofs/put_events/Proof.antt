@@ -54,7 +54,7 @@ use Rattle.tables.proofs.Flow.{whiles3, tests, leaves}
 use Rattle.text.specs.Written.{Wrote}
 use Rattle.text.specs.WrittenLaws.{and_next, as_text, nothing as Wrote-nothing}
 use Rattle.writing.specs.Bytes.{no_event, event_bytes, events_bytes}
-use Rattle.writing.specs.EventsLaws.{one-event, front-most}
+use Rattle.writing.proofs.EventsLaws.{one-event, front-most}
 use Rattle.writing.specs.contracts.put_events.Key.{name as #writing·put-events}
 use Rattle.writing.specs.contracts.put_events as put-events
 use Rattle.writing.proofs.put_events.Statement as stated

@@ -64,7 +64,7 @@ use lib.Ieee.Bits.{is_true, is_false}
 use Rattle.tables.proofs.Flow.{ifs, falls, lasts}
 use Rattle.writing.specs.Bytes.{events_bytes}
 use Rattle.writing.specs.Writing.{write_refusal, filed, write_reply, write_left}
-use Rattle.writing.specs.WritingLaws.{replies, Passed, passed, leaves, leaves_all, head-size}
+use Rattle.writing.proofs.WritingLaws.{replies, Passed, passed, leaves, leaves_all, head-size}
 use Rattle.writing.specs.contracts.write.Key.{name as #writing·write}
 use Rattle.writing.specs.contracts.write as write
 use Rattle.writing.proofs.write.Statement as stated

@@ -4,7 +4,7 @@ use Prim.Native.Nat.{◌-◌}
 use native.Mathlib.Omega.{arith}
 use lib.ListN.{get_or-eq_default}
 use Rattle.state.specs.State.{fresh_replica}
-use Rattle.state.specs.EveryLaws.{get_d_default}
+use Rattle.state.proofs.EveryLaws.{get_d_default}
 use borrow.Author.Rules.{rules}
 use Rattle.advance.proofs.gather.replica_of.Statement.{statement}
 use Rattle.advance.proofs.gather.replica_of.Tie as tie

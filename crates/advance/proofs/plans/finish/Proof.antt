@@ -2,7 +2,7 @@
 use mathlib.Core.Path.{ap}
 use Prim.Native.Nat.{ℕ}
 use borrow.Author.Tests.{eq-eqb, ne_eqb}
-use Rattle.replica.specs.HandlerLaws.{picks_first, picks_second}
+use Rattle.replica.proofs.HandlerLaws.{picks_first, picks_second}
 use Rattle.state.specs.declared.Bench.{Bench}
 use Rattle.state.specs.declared.Stepped.{Stepped}
 use Rattle.advance.specs.Parts.{moved_bench}

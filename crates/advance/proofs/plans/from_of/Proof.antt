@@ -3,7 +3,7 @@ use mathlib.Core.Path.{◌≡◌, ◌∙◌}
 use Prim.Native.Nat.{◌-◌}
 use native.Mathlib.Omega.{arith}
 use borrow.Author.Tests.{not-true, not-false}
-use Rattle.replica.specs.HandlerLaws.{picks_first, picks_second}
+use Rattle.replica.proofs.HandlerLaws.{picks_first, picks_second}
 use borrow.Author.Rules.{rules}
 use Rattle.advance.proofs.plans.from_of.Statement.{statement}
 use Rattle.advance.proofs.plans.from_of.Tie as tie

@@ -1,5 +1,5 @@
 -- `advance::plans::written_at` meets its contract.
-use Rattle.replica.specs.HandlerLaws.{picks_first, picks_second}
+use Rattle.replica.proofs.HandlerLaws.{picks_first, picks_second}
 use borrow.Author.Tests.{eq-eqb, ne_eqb}
 use borrow.Author.Rules.{rules}
 use Rattle.advance.proofs.plans.written_at.Statement.{statement}

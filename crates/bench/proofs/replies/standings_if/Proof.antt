@@ -1,6 +1,6 @@
 -- `bench::replies::standings_if` meets its contract.
 use mathlib.Core.Bool.{true, false}
-use Rattle.bench.specs.ReplyLaws.{pick}
+use Rattle.bench.proofs.ReplyLaws.{pick}
 use borrow.Author.Rules.{rules}
 use Rattle.bench.proofs.replies.standings_if.Statement.{statement}
 use Rattle.bench.proofs.replies.standings_if.Tie as tie

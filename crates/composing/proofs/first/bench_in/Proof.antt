@@ -6,7 +6,7 @@ use lib.ListN.{length, drop, get_or}
 use borrow.Author.Rules.{rules}
 use Rattle.script.specs.Lines.{lines}
 use Rattle.composing.specs.Script.{opening, script_of}
-use Rattle.composing.specs.PassLaws.{open-blank, open-bench, open-event, open-wrong, open-end}
+use Rattle.composing.proofs.PassLaws.{open-blank, open-bench, open-event, open-wrong, open-end}
 use Rattle.composing.proofs.first.bench_in.Statement.{statement}
 use Rattle.composing.proofs.first.bench_in.Tie as tie
 

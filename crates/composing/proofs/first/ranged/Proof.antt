@@ -1,7 +1,7 @@
 -- `composing::first::ranged` meets its contract.
 use mathlib.Core.Path.{sym, ◌∙◌}
 use borrow.Author.Tests.{not-true, not-false}
-use Rattle.composing.specs.PassLaws.{no-processes, no-registers, in-range}
+use Rattle.composing.proofs.PassLaws.{no-processes, no-registers, in-range}
 use borrow.Author.Rules.{rules}
 use Rattle.composing.proofs.first.ranged.Statement.{statement}
 use Rattle.composing.proofs.first.ranged.Tie as tie

@@ -1,5 +1,5 @@
 -- `composing::parting::part` meets its contract.
-use Rattle.composing.specs.PassLaws.{end-inside, parts_within, parts_last}
+use Rattle.composing.proofs.PassLaws.{end-inside, parts_within, parts_last}
 use borrow.Author.Rules.{rules}
 use Rattle.composing.proofs.parting.part.Statement.{statement}
 use Rattle.composing.proofs.parting.part.Tie as tie

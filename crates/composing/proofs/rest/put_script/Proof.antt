@@ -4,7 +4,7 @@ use mathlib.Core.Path.{◌≡◌, refl, sym, ap, ◌∙◌}
 use native.Mathlib.Omega.{arith}
 use lib.ListN.{length, drop, get_or}
 use borrow.Author.Rules.{rules}
-use Rattle.composing.specs.PassLaws.{events-blank, events-bench, events-event, events-wrong, Puts, puts-start, puts_none, puts-room, puts-event, puts-end}
+use Rattle.composing.proofs.PassLaws.{events-blank, events-bench, events-event, events-wrong, Puts, puts-start, puts_none, puts-room, puts-event, puts-end}
 use Rattle.composing.proofs.rest.put_script.Statement.{statement}
 use Rattle.composing.proofs.rest.put_script.Tie as tie
 

@@ -6,10 +6,10 @@ use lib.ListN.{length, drop, get_or}
 use borrow.Author.Rules.{rules}
 use Rattle.script.specs.Lines.{lines}
 use Rattle.writing.specs.Bytes.{event_bytes}
-use Rattle.writing.specs.EventsLaws.{event-most}
+use Rattle.writing.proofs.EventsLaws.{event-most}
 use Rattle.composing.specs.Script.{following}
 use Rattle.composing.specs.Passes.{surveyed}
-use Rattle.composing.specs.PassLaws.{survey-blank, survey-bench, survey-long, survey-event, survey-wrong, survey-end}
+use Rattle.composing.proofs.PassLaws.{survey-blank, survey-bench, survey-long, survey-event, survey-wrong, survey-end}
 use Rattle.composing.proofs.rest.survey.Statement.{statement}
 use Rattle.composing.proofs.rest.survey.Tie as tie
 

@@ -1,5 +1,5 @@
 -- `decide::events::settle` meets its contract.
-use Rattle.replica.specs.HandlerLaws.{picks_first, picks_second}
+use Rattle.replica.proofs.HandlerLaws.{picks_first, picks_second}
 use borrow.Author.Tests.{eq-eqb, ne_eqb}
 use mathlib.Core.Path.{◌≡◌, sym, ap, ◌∙◌}
 use borrow.Author.Rules.{rules}

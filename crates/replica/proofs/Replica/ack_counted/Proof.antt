@@ -2,7 +2,7 @@
 use Rattle.words.specs.Quorum.{majority_of, counted, joined}
 use lib.Dec.{leb}
 use mathlib.Core.Bool.{true, false}
-use Rattle.replica.specs.HandlerLaws.{picks_first, picks_second}
+use Rattle.replica.proofs.HandlerLaws.{picks_first, picks_second}
 use Rattle.replica.specs.Handlers.{ack_counted}
 use mathlib.Core.Path.{◌≡◌, sym, ap, ◌∙◌}
 use borrow.Author.Rules.{rules}

@@ -2,7 +2,7 @@
 use Rattle.words.specs.RangeLaws.{sender-time}
 use Rattle.replica.specs.RangeLaws.{fits-clock, fits-rid}
 use Rattle.replica.specs.Handlers.{ack_received, ack_rule, ack_taken}
-use Rattle.replica.specs.HandlerLaws.{rule-by, refuse-by, ack-inside}
+use Rattle.replica.proofs.HandlerLaws.{rule-by, refuse-by, ack-inside}
 use mathlib.Core.Path.{◌≡◌, sym, ap, ◌∙◌}
 use borrow.Author.Rules.{rules}
 use Rattle.replica.proofs.Replica.ack_received.Statement.{statement}

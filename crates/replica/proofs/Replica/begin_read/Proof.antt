@@ -2,7 +2,7 @@
 use native.Mathlib.Omega.{arith}
 use Rattle.replica.specs.RangeLaws.{fits-clock, fits-rid}
 use Rattle.replica.specs.Handlers.{read_begun, read_rule}
-use Rattle.replica.specs.HandlerLaws.{rule-by, refuse-by, read-inside}
+use Rattle.replica.proofs.HandlerLaws.{rule-by, refuse-by, read-inside}
 use mathlib.Core.Path.{◌≡◌, sym, ap, ◌∙◌}
 use borrow.Author.Rules.{rules}
 use Rattle.replica.proofs.Replica.begin_read.Statement.{statement}

@@ -4,7 +4,7 @@ use mir.Syntax.{w64}
 use native.Mathlib.Omega.{arith}
 use Rattle.replica.specs.RangeLaws.{fits-clock, fits-rid}
 use Rattle.replica.specs.Handlers.{write_begun, write_rule}
-use Rattle.replica.specs.HandlerLaws.{rule-by, refuse-by, write-inside}
+use Rattle.replica.proofs.HandlerLaws.{rule-by, refuse-by, write-inside}
 use mathlib.Core.Path.{◌≡◌, sym, ap, ◌∙◌}
 use borrow.Author.Rules.{rules}
 use Rattle.replica.proofs.Replica.begin_write.Statement.{statement}

@@ -1,6 +1,6 @@
 -- `replica::Replica::crash` meets its contract.
 use Rattle.replica.specs.Handlers.{crashed, crash_rule}
-use Rattle.replica.specs.HandlerLaws.{rule-by, refuse-by}
+use Rattle.replica.proofs.HandlerLaws.{rule-by, refuse-by}
 use mathlib.Core.Path.{◌≡◌, sym, ap, ◌∙◌}
 use borrow.Author.Rules.{rules}
 use Rattle.replica.proofs.Replica.crash.Statement.{statement}

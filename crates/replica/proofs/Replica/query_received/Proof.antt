@@ -3,7 +3,7 @@ use native.Mathlib.Omega.{arith}
 use Rattle.words.specs.RangeLaws.{sender-time, within-least, within-most}
 use Rattle.replica.specs.RangeLaws.{fits-clock}
 use Rattle.replica.specs.Handlers.{query_received, query_rule}
-use Rattle.replica.specs.HandlerLaws.{rule-by, refuse-by, query-inside}
+use Rattle.replica.proofs.HandlerLaws.{rule-by, refuse-by, query-inside}
 use mathlib.Core.Path.{◌≡◌, sym, ap, ◌∙◌}
 use borrow.Author.Rules.{rules}
 use Rattle.replica.proofs.Replica.query_received.Statement.{statement}

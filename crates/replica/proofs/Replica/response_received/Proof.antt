@@ -2,7 +2,7 @@
 use Rattle.words.specs.RangeLaws.{sender-time}
 use Rattle.replica.specs.RangeLaws.{fits-clock, fits-rid}
 use Rattle.replica.specs.Handlers.{response_received, response_rule, response_taken, response_counted}
-use Rattle.replica.specs.HandlerLaws.{rule-by, refuse-by, response-inside}
+use Rattle.replica.proofs.HandlerLaws.{rule-by, refuse-by, response-inside}
 use mathlib.Core.Path.{◌≡◌, sym, ap, ◌∙◌}
 use borrow.Author.Rules.{rules}
 use Rattle.replica.proofs.Replica.response_received.Statement.{statement}

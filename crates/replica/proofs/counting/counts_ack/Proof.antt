@@ -1,7 +1,7 @@
 -- `replica::counting::counts_ack` meets its contract.
 use borrow.Author.Tests.{eq-eqb, ne_eqb}
 use Rattle.replica.specs.Handlers.{ack_counts}
-use Rattle.replica.specs.HandlerLaws.{picks_first, picks_second}
+use Rattle.replica.proofs.HandlerLaws.{picks_first, picks_second}
 use mathlib.Core.Path.{◌≡◌, sym, ap, ◌∙◌}
 use borrow.Author.Rules.{rules}
 use Rattle.replica.proofs.counting.counts_ack.Statement.{statement}

@@ -5,7 +5,7 @@ use native.Mathlib.Omega.{arith}
 use lib.ListN.{length}
 use Rattle.bench.specs.StartLaws.{accepted-reply, refused-reply}
 use Rattle.schedule.specs.Opening.{opened}
-use Rattle.schedule.specs.OpeningLaws.{opens-file}
+use Rattle.schedule.proofs.OpeningLaws.{opens-file}
 use borrow.Author.Tests.{eq-eqb, ne_eqb}
 use borrow.Author.Rules.{rules}
 use Rattle.schedule.proofs.opening.opening.Statement.{statement}

@@ -1,5 +1,5 @@
 -- `schedule::opening::opening_refusal` meets its contract.
-use Rattle.schedule.specs.OpeningLaws.{fitting, unfitting}
+use Rattle.schedule.proofs.OpeningLaws.{fitting, unfitting}
 use borrow.Author.Rules.{rules}
 use Rattle.schedule.proofs.opening.opening_refusal.Statement.{statement}
 use Rattle.schedule.proofs.opening.opening_refusal.Tie as tie

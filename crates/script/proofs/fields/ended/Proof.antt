@@ -1,5 +1,5 @@
 -- `script::fields::ended` meets its contract.
-use Rattle.script.specs.MeaningLaws.{none-ends, more-ends}
+use Rattle.script.proofs.MeaningLaws.{none-ends, more-ends}
 use borrow.Author.Rules.{rules}
 use Rattle.script.proofs.fields.ended.Statement.{statement}
 use Rattle.script.proofs.fields.ended.Tie as tie

@@ -1,5 +1,5 @@
 -- `script::fields::take_number` meets its contract.
-use Rattle.script.specs.MeaningLaws.{number-missing, number-found, number-not, number-large}
+use Rattle.script.proofs.MeaningLaws.{number-missing, number-found, number-not, number-large}
 use borrow.Author.Rules.{rules}
 use Rattle.script.proofs.fields.take_number.Statement.{statement}
 use Rattle.script.proofs.fields.take_number.Tie as tie

@@ -2,7 +2,7 @@
 use mathlib.Core.Path.{subst}
 use native.Mathlib.Omega.{arith}
 use Rattle.script.specs.Places.{Took}
-use Rattle.script.specs.MeaningLaws.{both_found, second-wrong}
+use Rattle.script.proofs.MeaningLaws.{both_found, second-wrong}
 use borrow.Author.Rules.{rules}
 use Rattle.script.proofs.fields.take_second.Statement.{statement}
 use Rattle.script.proofs.fields.take_second.Tie as tie

@@ -2,7 +2,7 @@
 use mathlib.Core.Path.{subst}
 use native.Mathlib.Omega.{arith}
 use Rattle.script.specs.Places.{Took}
-use Rattle.script.specs.MeaningLaws.{first-wrong}
+use Rattle.script.proofs.MeaningLaws.{first-wrong}
 use borrow.Author.Rules.{rules}
 use Rattle.script.proofs.fields.take_two.Statement.{statement}
 use Rattle.script.proofs.fields.take_two.Tie as tie

@@ -5,7 +5,7 @@ use mir.Syntax.{w64}
 use mir.Facts.{to_z-of_z}
 use Rattle.script.specs.declared.Valued.TheVariants.{Value}
 use Rattle.script.specs.Places.{TookValue}
-use Rattle.script.specs.MeaningLaws.{value-missing, value_found, value_not, value-large}
+use Rattle.script.proofs.MeaningLaws.{value-missing, value_found, value_not, value-large}
 use borrow.Author.Rules.{rules}
 use Rattle.script.proofs.fields.take_value.Statement.{statement}
 use Rattle.script.proofs.fields.take_value.Tie as tie

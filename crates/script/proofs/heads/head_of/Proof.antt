@@ -3,7 +3,7 @@ use mathlib.Core.Path.{refl, sym, ◌∙◌}
 use mathlib.Core.Bool.{true, false}
 use Rattle.showing.specs.Shown.{word_read, word_write, word_deliver, word_crash, word_lose}
 use Rattle.script.specs.Meaning.{same}
-use Rattle.script.specs.MeaningLaws.{head-by}
+use Rattle.script.proofs.MeaningLaws.{head-by}
 use borrow.Author.Rules.{rules}
 use Rattle.script.proofs.heads.head_of.Statement.{statement}
 use Rattle.script.proofs.heads.head_of.Tie as tie

@@ -4,7 +4,7 @@ use mathlib.Core.Path.{◌≡◌, refl, ◌∙◌}
 use lib.ListN.{length, drop}
 use borrow.Author.Rules.{rules}
 use Rattle.script.specs.Meaning.{same}
-use Rattle.script.specs.MeaningLaws.{same_length, same_stop, same_next, same_end}
+use Rattle.script.proofs.MeaningLaws.{same_length, same_stop, same_next, same_end}
 use Rattle.script.proofs.heads.is_same.Statement.{statement}
 use Rattle.script.proofs.heads.is_same.Tie as tie
 

@@ -1,5 +1,5 @@
 -- `script::marks::next_word` meets its contract.
-use Rattle.script.specs.LineLaws.{spans}
+use Rattle.script.proofs.LineLaws.{spans}
 use borrow.Author.Rules.{rules}
 use Rattle.script.proofs.marks.next_word.Statement.{statement}
 use Rattle.script.proofs.marks.next_word.Tie as tie

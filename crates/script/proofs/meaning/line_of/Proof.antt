@@ -6,7 +6,7 @@ use native.Mathlib.Omega.{arith}
 use lib.ListN.{length, take}
 use lib.Seq.{length-take-le}
 use Rattle.script.specs.Lines.{before, words}
-use Rattle.script.specs.LineLaws.{before-within, take-before}
+use Rattle.script.proofs.LineLaws.{before-within, take-before}
 use Rattle.script.specs.Meaning.{meaning, line_of}
 use borrow.Author.Rules.{rules}
 use Rattle.script.proofs.meaning.line_of.Statement.{statement}

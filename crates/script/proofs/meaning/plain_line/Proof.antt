@@ -4,7 +4,7 @@ use lib.ListN.{drop}
 use Rattle.script.specs.declared.Head.{Head}
 use Rattle.script.specs.Lines.{words}
 use Rattle.script.specs.Meaning.{fields_of, meaning}
-use Rattle.script.specs.MeaningLaws.{no_word, a_word}
+use Rattle.script.proofs.MeaningLaws.{no_word, a_word}
 use borrow.Author.Rules.{rules}
 use Rattle.script.proofs.meaning.plain_line.Statement.{statement}
 use Rattle.script.proofs.meaning.plain_line.Tie as tie

@@ -9,7 +9,7 @@ use Rattle.state.specs.declared.Event.{Event}
 use Rattle.state.specs.declared.Event.TheVariants.{Write}
 use Rattle.text.specs.WrittenLaws.{as_text}
 use Rattle.writing.specs.Bytes.{event_bytes}
-use Rattle.writing.specs.SizeLaws.{read-size, write-size, deliver-size, crash-size, lose-size}
+use Rattle.writing.proofs.SizeLaws.{read-size, write-size, deliver-size, crash-size, lose-size}
 use Rattle.showing.specs.Shown.{event_line}
 use borrow.Author.Rules.{rules}
 use Rattle.showing.proofs.lines.put_event_line.Statement.{statement}

@@ -5,7 +5,7 @@ use native.Mathlib.Omega.{arith}
 use lib.ListN.{length, get_or}
 use borrow.Author.Rules.{rules}
 use Rattle.replica.specs.declared.Replica.{Replica}
-use Rattle.state.specs.EveryLaws.{get_d_default}
+use Rattle.state.proofs.EveryLaws.{get_d_default}
 use Rattle.state.specs.State.{fresh_replica}
 use Rattle.text.specs.Lines.{proc_texts}
 use Rattle.text.specs.LineLaws.{one-proc, proc-is}

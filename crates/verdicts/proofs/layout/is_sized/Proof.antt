@@ -1,7 +1,7 @@
 -- `verdicts::layout::is_sized` meets its contract.
 use native.Mathlib.Omega.{arith}
 use borrow.Author.Rules.{rules}
-use Rattle.verdicts.specs.PassLaws.{sized-short, sized-cut, sized-whole}
+use Rattle.verdicts.proofs.PassLaws.{sized-short, sized-cut, sized-whole}
 use Rattle.verdicts.proofs.layout.is_sized.Statement.{statement}
 use Rattle.verdicts.proofs.layout.is_sized.Tie as tie
 

@@ -6,7 +6,7 @@ use native.Mathlib.Omega.{arith}
 use lib.ListN.{length, length-set}
 use borrow.Author.Rules.{rules}
 use Rattle.verdicts.specs.Verdict.{rows_from, laid, zeros}
-use Rattle.verdicts.specs.PassLaws.{laid-turn}
+use Rattle.verdicts.proofs.PassLaws.{laid-turn}
 use Rattle.verdicts.proofs.layout.rows_laid.Statement.{statement}
 use Rattle.verdicts.proofs.layout.rows_laid.Tie as tie
 

@@ -9,7 +9,7 @@ use borrow.Author.Tests.{not-true, not-false}
 use Rattle.words.specs.Ranges.{within}
 use Rattle.words.specs.RangeLaws.{within-most}
 use Rattle.verdicts.specs.Verdict.{numbers_from, fresh, marked}
-use Rattle.verdicts.specs.PassLaws.{fresh-outside, fresh-seen, fresh-turn, marked_turn}
+use Rattle.verdicts.proofs.PassLaws.{fresh-outside, fresh-seen, fresh-turn, marked_turn}
 use Rattle.verdicts.proofs.passes.all_fresh.Statement.{statement}
 use Rattle.verdicts.proofs.passes.all_fresh.Tie as tie
 

@@ -6,7 +6,7 @@ use native.Mathlib.Omega.{arith}
 use lib.ListN.{length, length-set}
 use borrow.Author.Rules.{rules}
 use Rattle.verdicts.specs.Verdict.{rows_from, numbers_from, inside, reading, zeros}
-use Rattle.verdicts.specs.PassLaws.{rest-inside, number-row, reading-turn}
+use Rattle.verdicts.proofs.PassLaws.{rest-inside, number-row, reading-turn}
 use Rattle.verdicts.proofs.passes.all_hold.Statement.{statement}
 use Rattle.verdicts.proofs.passes.all_hold.Tie as tie
 

@@ -6,7 +6,7 @@ use native.Mathlib.Omega.{arith}
 use lib.ListN.{length, length-set}
 use borrow.Author.Rules.{rules}
 use Rattle.verdicts.specs.Verdict.{rows_from, numbers_from, inside, rising, zeros}
-use Rattle.verdicts.specs.PassLaws.{rest-inside, number-row, rising-turn}
+use Rattle.verdicts.proofs.PassLaws.{rest-inside, number-row, rising-turn}
 use Rattle.verdicts.proofs.passes.all_rise.Statement.{statement}
 use Rattle.verdicts.proofs.passes.all_rise.Tie as tie
 

@@ -6,7 +6,7 @@ use native.Mathlib.Omega.{arith}
 use lib.ListN.{length}
 use borrow.Author.Rules.{rules}
 use Rattle.verdicts.specs.Verdict.{rows_from, missing}
-use Rattle.verdicts.specs.PassLaws.{missing-turn}
+use Rattle.verdicts.proofs.PassLaws.{missing-turn}
 use Rattle.verdicts.proofs.passes.misses_row.Statement.{statement}
 use Rattle.verdicts.proofs.passes.misses_row.Tie as tie
 

@@ -6,7 +6,7 @@ use native.Mathlib.Omega.{arith}
 use lib.ListN.{length}
 use borrow.Author.Rules.{rules}
 use Rattle.verdicts.specs.Verdict.{rows_from, numbers_from, inside, unfinished_read}
-use Rattle.verdicts.specs.PassLaws.{rest-inside, number-row, unfinished-turn}
+use Rattle.verdicts.proofs.PassLaws.{rest-inside, number-row, unfinished-turn}
 use Rattle.verdicts.proofs.passes.names_unfinished.Statement.{statement}
 use Rattle.verdicts.proofs.passes.names_unfinished.Tie as tie
 

@@ -1,6 +1,6 @@
 -- Below 8 processes the ranks compare as the stamps do; the other answer is `below` part by part.
 use Rattle.std.proofs.Common.{rules, ap₂, ◌∙◌, nat_lt}
-use Rattle.words.specs.RankLaws.{rank-tested}
+use Rattle.words.proofs.RankLaws.{rank-tested}
 use Rattle.words.specs.Stamps.{below}
 use Rattle.words.proofs.stamps.is_below.Goals as goal
 

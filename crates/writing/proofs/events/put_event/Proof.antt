@@ -10,7 +10,7 @@ use lib.ListN.{length}
 use Rattle.state.specs.declared.Event.{Event}
 use Rattle.writing.specs.Bytes.{event_bytes, value_bytes}
 use Rattle.text.specs.WrittenLaws.{as_text}
-use Rattle.writing.specs.SizeLaws.{read-size, write-size, deliver-size, crash-size, lose-size}
+use Rattle.writing.proofs.SizeLaws.{read-size, write-size, deliver-size, crash-size, lose-size}
 use borrow.Author.Rules.{rules}
 use Rattle.writing.proofs.events.put_event.Statement.{statement}
 use Rattle.writing.proofs.events.put_event.Tie as tie

@@ -3,7 +3,7 @@ use mathlib.Core.Path.{sym, ap, ◌∙◌}
 use lib.ListN.{length}
 use Rattle.state.specs.declared.Event.{Event}
 use Rattle.writing.specs.Bytes.{event_bytes}
-use Rattle.writing.specs.SizeLaws.{read-size, write-size, deliver-size, crash-size, lose-size}
+use Rattle.writing.proofs.SizeLaws.{read-size, write-size, deliver-size, crash-size, lose-size}
 use borrow.Author.Rules.{rules}
 use Rattle.writing.proofs.events.size_of.Statement.{statement}
 use Rattle.writing.proofs.events.size_of.Tie as tie

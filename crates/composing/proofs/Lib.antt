@@ -1,0 +1,2 @@
+pub mod ComposeLaws
+pub mod PassLaws

@@ -1,0 +1,13 @@
+pub mod Alone
+pub mod Begun
+pub mod Kept
+pub mod MoveKept
+pub mod StoresKept
+pub mod Counted
+pub mod WaitsKept
+pub mod FlightKept
+pub mod EntriesKept
+pub mod TurnsKept
+pub mod SoundLaws
+pub mod FactsLaws
+pub mod Demand3Laws

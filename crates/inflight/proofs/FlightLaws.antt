@@ -1,0 +1,140 @@
+-- What a run over a table of 512 messages says of its file, from whether its bench has processes; and that the text which is written from it is the file's.
+use Rattle.std.specs.Prelude.{ℕ, zero, suc, ◌+◌, ◌-◌, ◌*◌, ◌≤◌, ◌<◌, ◌≡◌, Bool, true, false, not, List, [], ◌∷◌, ◌++◌, eqb, length, take, get_or, replicate}
+use Rattle.std.proofs.Math.Path.{refl, ap}
+use Rattle.std.proofs.Common.{sym, subst, ◌∙◌, true≢false, append_assoc, append-nil, arith, add-one, length-append, take-suc, eqb-true, eq-eqb}
+use Rattle.std.proofs.Math.Bool.{cond}
+use Rattle.std.proofs.lemmas.List.{length-replicate}
+use Rattle.std.proofs.Math.Seq.{take-append_seam}
+use Rattle.std.proofs.lemmas.Bool.{not-false}
+use Rattle.words.specs.declared.Message.{Message}
+use Rattle.tables.specs.declared.Row.{Row}
+use Rattle.tables.specs.Tables.{empty_message}
+use Rattle.state.specs.declared.Stepped.{Stepped}
+use Rattle.state.specs.State.{State, laid_messages}
+use Rattle.state.specs.Tabled.{bench_of}
+use Rattle.state.proofs.WellLaws.{Well, well}
+use Rattle.state.proofs.Keeps.{reached-well-formed}
+use Rattle.state.proofs.Sized.{Sized, reached-sized}
+use Rattle.state.specs.Reached.{Reached}
+use Rattle.bench.specs.Start.{no_bench, replied}
+use Rattle.format.specs.Format.{file_refusal}
+use Rattle.format.proofs.FileLaws.{file-opens}
+use Rattle.schedule.specs.Opening.{opening_refusal, opens, ran_file, run_reply, run_messages}
+use Rattle.schedule.proofs.FileLaws.{file-reached}
+use Rattle.text.specs.Printed.{printed_refusal}
+use Rattle.text.specs.Written.{Wrote}
+use Rattle.text.specs.WrittenLaws.{as_text}
+use Rattle.inflight.specs.Flight.{message_line, message_lines, in_flight, messages_left}
+
+-- ---- the lines of a table's front, one more
+
+lines-last : (messages : List Message) (m : Message) → message_lines (messages ++ (m ∷ [])) ≡ message_lines messages ++ message_line m
+lines-last [] m = append-nil (message_line m)
+lines-last (first ∷ rest) m = ap (λ (text : List ℕ). message_line first ++ text) (lines-last rest m) ∙ sym (append_assoc (message_line first) (message_lines rest) (message_line m))
+
+pub one-message : (messages : List Message) (i : ℕ) (none : Message) → i < length messages
+    → message_lines (take i messages) ++ message_line (get_or messages i none) ≡ message_lines (take (i + 1) messages)
+one-message messages i none inside =
+    sym (lines-last (take i messages) (get_or messages i none))
+    ∙ sym (ap (λ (n : ℕ). message_lines (take n messages)) (add-one i) ∙ ap message_lines (take-suc messages i none inside))
+
+-- ---- a run whose history has 1,024 rows
+
+module _ (bytes : List ℕ) (messages : List Message) (rows : List Row) (long : length rows ≡ 1024) where
+  pub messages-reply : (r : Stepped) → r ≡ run_reply (length messages) (length rows) bytes → r ≡ run_reply (length messages) 1024 bytes
+  messages-reply r e = e ∙ ap (λ (k : ℕ). run_reply (length messages) k bytes) long
+
+  pub messages-left : (messages' : List Message) → messages' ≡ run_messages bytes messages rows → messages' ≡ messages_left bytes messages
+  unfolding run_messages messages_left
+  messages-left messages' e = e ∙ ap (λ (k : ℕ). cond (opens (length messages) k bytes) (laid_messages (ran_file bytes).state) messages) long
+
+-- ---- what it says of the file
+
+module _ (bytes : List ℕ) where
+  by-test : (t : Bool) → eqb (file_refusal bytes) 0 ≡ t → in_flight bytes ≡ cond t (message_lines (ran_file bytes).state.flight) (printed_refusal (file_refusal bytes))
+  unfolding in_flight
+  by-test t e = ap (λ (u : Bool). cond u (message_lines (ran_file bytes).state.flight) (printed_refusal (file_refusal bytes))) e
+
+-- the table holds the messages in flight of the state that the run stopped at, and the bench their number
+pub record Flying (bytes : List ℕ) (r : Stepped) (messages : List Message) : Type 0 where
+  pub file : eqb (file_refusal bytes) 0 ≡ true
+  pub count : r.bench.flight ≡ length (ran_file bytes).state.flight
+  pub few : r.bench.flight ≤ 512
+  pub laid : messages ≡ laid_messages (ran_file bytes).state
+
+module _ (bytes : List ℕ) (messages : List Message) (long : length messages ≡ 512) (r : Stepped) (e : r ≡ run_reply (length messages) 1024 bytes)
+    (messages' : List Message) (f : messages' ≡ messages_left bytes messages) where
+  abbrev stopped : State
+  stopped = (ran_file bytes).state
+
+  number_is : opening_refusal (length messages) 1024 bytes ≡ file_refusal bytes
+  unfolding opening_refusal
+  number_is = rw long refl
+
+  opens-is : opens (length messages) 1024 bytes ≡ eqb (file_refusal bytes) 0
+  opens-is = ap (λ (k : ℕ). eqb k 0) number_is
+
+  abbrev reply : Bool → Stepped
+  reply t = cond t (replied (ran_file bytes).refusal (bench_of stopped)) (replied (opening_refusal (length messages) 1024 bytes) no_bench)
+
+  reply-is : (t : Bool) → eqb (file_refusal bytes) 0 ≡ t → r ≡ reply t
+  unfolding run_reply
+  reply-is t z = e ∙ ap reply (opens-is ∙ z)
+
+  left_is : (t : Bool) → eqb (file_refusal bytes) 0 ≡ t → messages' ≡ cond t (laid_messages stopped) messages
+  unfolding messages_left
+  left_is t z = f ∙ ap (λ (u : Bool). cond u (laid_messages stopped) messages) (opens-is ∙ z)
+
+  reached : eqb (file_refusal bytes) 0 ≡ true → Reached stopped
+  reached z = file-reached bytes (file-opens bytes (eqb-true (file_refusal bytes) 0 z))
+
+  flying : eqb (file_refusal bytes) 0 ≡ true → Flying bytes r messages'
+  flying z =
+      let count : r.bench.flight ≡ length stopped.flight = ap (λ (x : Stepped). x.bench.flight) (reply-is true z) in
+      record { file = z; count = count; few = omega (arith, count, (reached-sized stopped (reached z)).flight); laid = left_is true z }
+
+  some-process : eqb (file_refusal bytes) 0 ≡ true → 1 ≤ r.bench.n
+  some-process z = subst (λ (x : Stepped). 1 ≤ x.bench.n) (sym (reply-is true z)) (well stopped (reached-well-formed stopped (reached z))).processes.least
+
+  pub begun : not (eqb r.bench.n 0) ≡ true → Flying bytes r messages'
+  begun h = go (eqb (file_refusal bytes) 0) refl
+    where
+      go : (t : Bool) → eqb (file_refusal bytes) 0 ≡ t → Flying bytes r messages'
+      go true z = flying z
+      go false z = absurd (true≢false (sym h ∙ ap not (eq-eqb r.bench.n 0 (ap (λ (x : Stepped). x.bench.n) (reply-is false z)))))
+
+  unbegun : not (eqb r.bench.n 0) ≡ false → eqb (file_refusal bytes) 0 ≡ false
+  unbegun h = go (eqb (file_refusal bytes) 0) refl
+    where
+      go : (t : Bool) → eqb (file_refusal bytes) 0 ≡ t → t ≡ false
+      go false z = refl
+      go true z = absurd (impossible (some-process z) (eqb-true r.bench.n 0 (not-false (eqb r.bench.n 0) h)))
+        where
+          impossible : 1 ≤ r.bench.n → r.bench.n ≡ 0 → ⊥
+          impossible l q = omega (arith, l, q)
+
+  -- a file that starts no bench: its number
+  pub text-refused : not (eqb r.bench.n 0) ≡ false → (k : ℕ) → k ≡ r.refusal → (xs ys : List ℕ) (end : ℕ) → Wrote 0 (printed_refusal k) 14 xs ys end → Wrote 0 (in_flight bytes) 73728 xs ys end
+  text-refused h k ek xs ys end w = as_text (ap printed_refusal given ∙ sym (by-test bytes false (unbegun h))) (omega arith) w
+    where
+      given : k ≡ file_refusal bytes
+      given = ek ∙ ap (λ (x : Stepped). x.refusal) (reply-is false (unbegun h)) ∙ number_is
+
+-- ---- the text of the messages in flight
+
+module _ (bytes : List ℕ) (r : Stepped) (messages : List Message) (s : Flying bytes r messages) (u : ℕ) (eu : u ≡ r.bench.flight) where
+  pub few-messages : u ≤ 512
+  few-messages = omega (arith, eu, s.few)
+
+  pub in_table : u ≤ length messages
+  in_table =
+      subst (λ (l : List Message). u ≤ length l) (sym s.laid)
+      (omega (arith, eu, s.count, length-append (ran_file bytes).state.flight (replicate (512 - length (ran_file bytes).state.flight) empty_message)))
+
+  front : take u messages ≡ (ran_file bytes).state.flight
+  front =
+      ap (λ (l : List Message). take u l) s.laid ∙ ap (λ (n : ℕ). take n (laid_messages (ran_file bytes).state)) (eu ∙ s.count)
+      ∙ take-append_seam (ran_file bytes).state.flight (replicate (512 - length (ran_file bytes).state.flight) empty_message)
+
+  pub text-written : (xs ys : List ℕ) (end : ℕ) → Wrote 0 (message_lines (take u messages)) (144 * u) xs ys end → Wrote 0 (in_flight bytes) 73728 xs ys end
+  text-written xs ys end w = as_text (ap message_lines front ∙ sym (by-test bytes true s.file)) (omega (arith, few-messages)) w

@@ -1,0 +1,9 @@
+pub mod AnswerLaws
+pub mod MoveLaws
+pub mod FreeLaws
+pub mod LimitLaws
+pub mod ClockGrowthLaws
+pub mod PlacedLaws
+pub mod EffectLaws
+pub mod RequestNumberLaws
+pub mod ExchangeLaws

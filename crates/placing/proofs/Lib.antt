@@ -1,0 +1,10 @@
+pub mod RowLaws
+pub mod StampKeys
+pub mod PointLaws
+pub mod PlacedLaws
+pub mod AnsweredFirst
+pub mod ReadLaws
+pub mod OrderLaws
+pub mod Placing
+pub mod Examples
+pub mod FactsExamples

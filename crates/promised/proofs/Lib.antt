@@ -1,0 +1,4 @@
+pub mod ChecksLaws
+pub mod Demand1Laws
+pub mod EighteenLaws
+pub mod ReplayLaws

@@ -1,0 +1,14 @@
+pub mod Acceptance
+pub mod Examples
+pub mod RowLaws
+pub mod NumberLaws
+pub mod NamedLaws
+pub mod SequenceLaws
+pub mod ReadingLaws
+pub mod LaidLaws
+pub mod BytesLaws
+pub mod FileLaws
+pub mod ExplainsLaws
+pub mod WrittenLaws
+pub mod SequentialLaws
+pub mod PassLaws
