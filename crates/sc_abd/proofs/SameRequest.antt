@@ -116,7 +116,7 @@ module _ (s : State) (w : Well s) (a : System) (same : Same s a) (i p : ℕ) (ac
           store = own.store;
           replies = own.replies;
           waits = own.waits;
-          phase = phase-at _ (replica_of s p).phase (a.processes p) (a.asking p) _ _ (still answer).phase;
+          phase = phase-at (bench s i p answer) (replica_of s p).phase (a.processes p) (a.asking p) _ _ (still answer).phase;
         })
         (ap₂ (λ t v. record { from = p; to = m.from.0; content = Content.response t m.rid.0 v } ∷ []) clock-after (own.store x l.least l.most))
         refl refl had
@@ -134,7 +134,7 @@ module _ (s : State) (w : Well s) (a : System) (same : Same s a) (i p : ℕ) (ac
           store = stores;
           replies = own.replies;
           waits = own.waits;
-          phase = phase-at _ (replica_of s p).phase (a.processes p) (a.asking p) _ _ (still answer).phase;
+          phase = phase-at (bench s i p answer) (replica_of s p).phase (a.processes p) (a.asking p) _ _ (still answer).phase;
         })
         (ap (λ t. record { from = p; to = m.from.0; content = Content.ack t m.rid.0 } ∷ []) clock-after)
         refl refl had

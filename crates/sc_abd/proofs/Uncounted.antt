@@ -84,11 +84,11 @@ made_up-meets-demand2 =
       starts = step-meets-demand2.starts;
       sound = λ s a e r same z.
           let (action, names, on, then) = step-meets-demand2.sound (one_fewer s) a e (honest r) (same-uncounted s _ a same) z in
-          (action, names-uncounted s _ e action names, on, told s e z (λ t. Same t (taken a action)) (same-uncounted _ _ _ then));
+          (action, names-uncounted s (s.sent - 1) e action names, on, told s e z (λ t. Same t (taken a action)) (same-uncounted _ _ _ then));
       complete = λ s a action r same on limits.
           let (e, names, z, then) = step-meets-demand2.complete (one_fewer s) a action (honest r) (same-uncounted s _ a same) on
-          (limits-uncounted s _ a action limits) in
-          (e, names-uncounted s _ e action names, z, told s e z (λ t. Same t (taken a action)) (same-uncounted _ _ _ then));
+          (limits-uncounted s (s.sent - 1) a action limits) in
+          (e, names-uncounted s (s.sent - 1) e action names, z, told s e z (λ t. Same t (taken a action)) (same-uncounted _ _ _ then));
       counted = λ s e r z.
           told s e z (λ t. (t.accepted ≡ s.accepted + 1) × (t.m ≡ s.m)) (step-meets-demand2.counted (one_fewer s) e (honest r) z);
       refused = λ s e r n. rw (ne_eqb _ 0 n) refl;
