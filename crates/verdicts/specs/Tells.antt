@@ -1,5 +1,5 @@
 -- A test that tells exactly whether something holds.
-use Rattle.std.specs.Prelude.{◌≡◌, refl, Bool, true, false, not}
+use Rattle.std.specs.Prelude.{◌≡◌, Bool, true, false, not}
 use Rattle.std.proofs.lemmas.Bool.{not-true, not-false}
 
 pub record Tells (test : Bool) (P : Type 0) : Type 0 where
