@@ -1,5 +1,5 @@
 -- Laws of the handlers: what a refusal says, and that inside the ranges a handler is its plain rule.
-use Rattle.std.specs.Prelude.{ℕ, ◌-◌, ◌≡◌, refl, Bool, true, false, cond, ◌&&◌, ◌⊎◌, eqb, leb, ℤ, set}
+use Rattle.std.specs.Prelude.{ℕ, ◌-◌, ◌≡◌, refl, Bool, true, false, cond, ◌&&◌, ◌⊎◌, leb, ℤ, set}
 use Rattle.std.proofs.Common.{sym, ◌∙◌, inl, inr, eq-eqb, ne_eqb}
 use Rattle.std.proofs.Math.Path.{ap}
 use Rattle.std.proofs.Math.Bool.{and-false}

@@ -1,10 +1,9 @@
 -- The handlers of one process: document 01, "Events", sentence by sentence. Each rule is what document 000's Algorithm 1 does for the event;
 -- each handler is the rule, guarded by its ranges and document 01's refusals.
-use Rattle.std.specs.Prelude.{ℕ, ◌+◌, ◌-◌, Bool, true, false, cond, not, ◌&&◌, List, leb, eqb, ℤ, get_or, set}
+use Rattle.std.specs.Prelude.{ℕ, ◌+◌, ◌-◌, Bool, true, false, cond, ◌&&◌, List, leb, eqb, ℤ, get_or, set}
 use Rattle.words.specs.declared.Time.{Time}
 use Rattle.words.specs.declared.Rid.{Rid}
 use Rattle.words.specs.declared.Pid.{Pid}
-use Rattle.words.specs.declared.Stamp.{Stamp}
 use Rattle.words.specs.declared.Pair.{Pair}
 use Rattle.words.specs.declared.Body.{Body}
 use Rattle.words.specs.declared.Body.TheVariants.{Query, Response, Update, Ack}

@@ -24,6 +24,7 @@ use words::refusal::{CRASHED, NOT_FORMED, PENDING, RECIPIENT_CRASHED};
 use words::{Pair, Pid, Rid, Time};
 
 // Why an operation is not begun.
+#[tactic(auto, unfolding(crate::specs::Handlers::begin_refusal))]
 fn begin_refusal(fits: bool, crashed: bool, idle: bool) -> u8
     ensures { result ≡ begin_refusal fits crashed idle }
 {
@@ -41,6 +42,7 @@ fn begin_refusal(fits: bool, crashed: bool, idle: bool) -> u8
 }
 
 // Why a message is not received, or a crash not taken: `number` stands for a replica that is down.
+#[tactic(auto, unfolding(crate::specs::Handlers::down_refusal))]
 fn down_refusal(number: u8, fits: bool, crashed: bool) -> u8
     ensures { result ≡ down_refusal number fits crashed }
 {
@@ -51,6 +53,7 @@ fn down_refusal(number: u8, fits: bool, crashed: bool) -> u8
     }
 }
 
+#[tactic(auto, unfolding(crate::specs::Handlers::read_refusal))]
 pub fn read_refusal(r: Replica, register: u8, row: u16) -> u8
     ensures { result ≡ read_refusal r register row }
 {
@@ -59,6 +62,7 @@ pub fn read_refusal(r: Replica, register: u8, row: u16) -> u8
     begin_refusal(fits, r.crashed, phases::is_idle(phase))
 }
 
+#[tactic(auto, unfolding(crate::specs::Handlers::write_refusal))]
 pub fn write_refusal(r: Replica, me: Pid, register: u8, row: u16) -> u8
     ensures { result ≡ write_refusal r me register row }
 {
@@ -87,6 +91,7 @@ fn request_fits(r: Replica, from: Pid, time: Time, rid: Rid, register: u8) -> bo
     replica_fits(PROCESSES, r) & sender_fits(PROCESSES, from, time, rid) & stored_fits(r, register)
 }
 
+#[tactic(auto, unfolding(crate::specs::Handlers::query_refusal))]
 pub fn query_refusal(r: Replica, from: Pid, time: Time, rid: Rid, register: u8) -> u8
     ensures { result ≡ query_refusal r from time rid register }
 {
@@ -97,6 +102,7 @@ pub fn query_refusal(r: Replica, from: Pid, time: Time, rid: Rid, register: u8) 
     )
 }
 
+#[tactic(auto, unfolding(crate::specs::Handlers::update_refusal))]
 pub fn update_refusal(r: Replica, from: Pid, time: Time, rid: Rid, register: u8, pair: Pair) -> u8
     ensures { result ≡ update_refusal r from time rid register pair }
 {
@@ -111,6 +117,7 @@ fn reply_fits(r: Replica, n: u8, from: Pid, time: Time, rid: Rid) -> bool
     replica_fits(n, r) & sender_fits(n, from, time, rid) & is_within(n, PROCESSES)
 }
 
+#[tactic(auto, unfolding(crate::specs::Handlers::response_refusal))]
 pub fn response_refusal(
     r: Replica,
     n: u8,
@@ -128,6 +135,7 @@ pub fn response_refusal(
     down_refusal(RECIPIENT_CRASHED, fits, r.crashed)
 }
 
+#[tactic(auto, unfolding(crate::specs::Handlers::ack_refusal))]
 pub fn ack_refusal(r: Replica, n: u8, from: Pid, time: Time, rid: Rid) -> u8
     ensures { result ≡ ack_refusal r n from time rid }
 {
@@ -138,6 +146,7 @@ pub fn ack_refusal(r: Replica, n: u8, from: Pid, time: Time, rid: Rid) -> u8
     )
 }
 
+#[tactic(auto, unfolding(crate::specs::Handlers::crash_refusal))]
 pub fn crash_refusal(r: Replica) -> u8
     ensures { result ≡ crash_refusal r }
 {
