@@ -1,4 +1,3 @@
-pub mod OfBench
 pub mod FollowsLaws
 pub mod Refusals
 pub mod CountingLaws
