@@ -1,15 +1,2 @@
-pub mod Askeds
-pub mod Benches
-pub mod ValueCalls
-pub mod TableCalls
-pub mod Callees
-pub mod Events
-pub mod Founds
-pub mod Knowns
-pub mod Ends
-pub mod Line
-pub mod Soughts
-pub mod Steppeds
-pub mod Works
 pub mod Advances
 pub mod TabledLaws

@@ -106,6 +106,7 @@ fn is_down(bench: Bench, p: u8) -> bool
     r.crashed
 }
 
+#[tactic(auto, unfolding(crate::specs::Parts::whose_of))]
 pub fn whose(bench: Bench, event: Event, message: Message) -> Whose
     requires { length bench.replicas ≡ 7 }
     ensures { result ≡ whose_of bench event message }
@@ -123,6 +124,7 @@ pub fn whose(bench: Bench, event: Event, message: Message) -> Whose
     }
 }
 
+#[tactic(auto, unfolding(crate::specs::Parts::asked_of))]
 pub fn asked_of(bench: Bench, event: Event, s: Sought) -> Asked
     requires { length bench.replicas ≡ 7 }
     ensures { result ≡ asked_of bench event s }
@@ -137,6 +139,7 @@ pub fn asked_of(bench: Bench, event: Event, s: Sought) -> Asked
     }
 }
 
+#[tactic(auto, unfolding(crate::specs::Parts::known_of))]
 pub fn known_of(a: Asked, row: Row) -> Known
     ensures { result ≡ known_of a row }
 {

@@ -72,6 +72,7 @@ pub struct Work {
 }
 
 // The message at the place that was found, the empty one where none was.
+#[tactic(auto, unfolding(crate::specs::Parts::message_found))]
 fn message_found(t: &[Message], found: Found) -> Message
     ensures { result ≡ message_found t.now found }
 {

@@ -133,6 +133,7 @@ fn finish(bench: Bench, t: Tally, p: u8, from: u16, plan: Plan) -> Stepped
     }
 }
 
+#[tactic(auto, unfolding(crate::specs::Parts::work_by))]
 fn work_by(bench: Bench, t: Tally, p: u8, plan: Plan) -> Work
     requires { Bounded bench × ((t.rows ≤ 1) × (t.delivered ≤ 1) × (t.lost ≤ 1)) }
     ensures { result ≡ work_by bench t p plan }
@@ -155,6 +156,7 @@ fn work_by(bench: Bench, t: Tally, p: u8, plan: Plan) -> Work
     }
 }
 
+#[tactic(auto, unfolding(crate::specs::Parts::work_of))]
 pub fn work_of(bench: Bench, event: Event, k: Known) -> Work
     requires { Bounded bench }
     ensures { result ≡ work_of bench event k }

@@ -4,8 +4,6 @@ use Rattle.std.specs.Prelude.{ℕ, ◌+◌, Bool, cond, eqb, ℤ}
 use Rattle.words.specs.declared.Body.{Body}
 use Rattle.words.specs.declared.Body.TheVariants.{Query, Response, Update, Ack}
 use Rattle.words.specs.declared.Message.{Message}
-use Rattle.words.specs.declared.Pair.{Pair}
-use Rattle.words.specs.declared.Time.{Time}
 use Rattle.replica.specs.declared.Answer.{Answer}
 use Rattle.replica.specs.declared.Ended.{Ended}
 use Rattle.replica.specs.declared.Ended.TheVariants.{Pending, Query as Queried, At}

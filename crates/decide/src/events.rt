@@ -62,6 +62,7 @@ fn settle(number: u8, r: Replica, plan: Plan) -> Plan
     }
 }
 
+#[tactic(auto, unfolding(crate::specs::Plan::read_plan))]
 fn read_plan(c: Counters, p: u8, x: u8, r: Replica) -> Plan
     requires { (c.sent ≤ 84000) × (c.rows ≤ 1024) }
     ensures { result ≡ read_plan c p x r }
@@ -81,6 +82,7 @@ fn read_plan(c: Counters, p: u8, x: u8, r: Replica) -> Plan
     )
 }
 
+#[tactic(auto, unfolding(crate::specs::Plan::write_plan))]
 fn write_plan(c: Counters, p: u8, x: u8, value: i64, r: Replica) -> Plan
     requires { (c.sent ≤ 84000) × (c.rows ≤ 1024) }
     ensures { result ≡ write_plan c p x value r }
@@ -100,6 +102,7 @@ fn write_plan(c: Counters, p: u8, x: u8, value: i64, r: Replica) -> Plan
     )
 }
 
+#[tactic(auto, unfolding(crate::specs::Plan::deliver_plan))]
 fn deliver_plan(c: Counters, found: Found, message: Message, r: Replica, row: Row) -> Plan
     requires { c.sent ≤ 84000 }
     ensures { result ≡ deliver_plan c found message r row }
@@ -120,6 +123,7 @@ fn deliver_plan(c: Counters, found: Found, message: Message, r: Replica, row: Ro
     settle(refusal, r, plan)
 }
 
+#[tactic(auto, unfolding(crate::specs::Plan::crash_plan))]
 fn crash_plan(c: Counters, p: u8, r: Replica) -> Plan
     requires { c.sent ≤ 84000 }
     ensures { result ≡ crash_plan c p r }
@@ -131,6 +135,7 @@ fn crash_plan(c: Counters, p: u8, r: Replica) -> Plan
 }
 
 // A lost message changes no replica: the plan only says whether it may be lost, and from which place.
+#[tactic(auto, unfolding(crate::specs::Plan::lose_plan))]
 fn lose_plan(c: Counters, found: Found, down: bool, r: Replica) -> Plan
     ensures { result ≡ lose_plan c found down r }
 {
@@ -140,6 +145,7 @@ fn lose_plan(c: Counters, found: Found, down: bool, r: Replica) -> Plan
     quiet_plan(checks::lose_checks(c, down), place, r)
 }
 
+#[tactic(auto, unfolding(crate::specs::Plan::plan_of))]
 pub fn plan_of(
     c: Counters,
     event: Event,
