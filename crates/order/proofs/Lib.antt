@@ -1,3 +1,0 @@
-pub mod Local
-pub mod Callees
-pub mod Big
