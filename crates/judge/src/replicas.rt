@@ -137,6 +137,7 @@ fn replicas_fit(l: Limits, waiting: [Waiting; 7], replicas: [Replica; 7]) -> boo
 }
 
 // The whole, from what was seen of the tables.
+#[tactic(auto, unfolding(crate::specs::Scans::judged))]
 pub fn judge(b: Bench, messages: bool, rows: RowScan) -> bool
     ensures { result ≡ judged b messages rows }
 {

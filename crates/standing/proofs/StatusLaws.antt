@@ -1,5 +1,5 @@
 -- The statuses by their numbers; and what the code finds of a bench, place by place, is the status of the state that it holds, whatever the tables.
-use Rattle.std.specs.Prelude.{ℕ, zero, suc, ◌+◌, ◌-◌, ◌≤◌, ◌≡◌, refl, List, [], ◌∷◌, map, Bool, true, false, cond, leb, replicate}
+use Rattle.std.specs.Prelude.{ℕ, zero, suc, ◌+◌, ◌≤◌, ◌≡◌, refl, List, [], ◌∷◌, map, Bool, true, false, cond, leb, replicate}
 use Rattle.std.proofs.Common.{ap, ap₂, arith}
 use Rattle.words.specs.Quorum.{majority_of}
 use Rattle.words.specs.declared.Message.{Message}

@@ -114,6 +114,7 @@ pub fn standings_of(b: Bench) -> Statuses
 }
 
 // A refused status: every place reads down.
+#[tactic(auto, unfolding(crate::specs::Status::downs))]
 pub fn all_down(refusal: u8) -> Statuses
     ensures { result ≡ downs refusal }
 {
