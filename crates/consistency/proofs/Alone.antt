@@ -1,6 +1,6 @@
 -- Why demand 2 stands beside demand 3: a bench that refuses everything, one whose events do nothing, and one that does the first event honestly and
 -- merely counts the rest all have a sequentially consistent history, since next to nothing ever happens in it. Each is refuted by demand 2.
-use Rattle.std.specs.Prelude.{◌≡◌, refl, Bool, true, false, cond, ◌⊎◌, List, map, ℕ, ◌+◌, eqb, pos}
+use Rattle.std.specs.Prelude.{◌≡◌, refl, Bool, true, false, cond, ◌⊎◌, List, map, ◌+◌, eqb, pos}
 use Rattle.std.proofs.Common.{subst, inl, inr, arith, eqb-true}
 use Rattle.std.proofs.lemmas.Bool.{eqb-false}
 use Rattle.placing.specs.Sequential.{Sequential}

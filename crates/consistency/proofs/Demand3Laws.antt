@@ -12,7 +12,7 @@ use Rattle.state.specs.State.{State}
 use Rattle.state.specs.Step.{Outcome, step}
 use Rattle.state.specs.Reached.{Reached}
 use Rattle.sc_abd.specs.System.{Action}
-use Rattle.sc_abd.specs.Demand2.{ReachedBy, Demand2}
+use Rattle.sc_abd.specs.Demand2.{Demand2}
 use Rattle.sc_abd.specs.Executions.{Execution, Performed}
 use Rattle.sc_abd.proofs.AnyBench.{rows-of-ours}
 use Rattle.sc_abd.proofs.Theorem.{reached}

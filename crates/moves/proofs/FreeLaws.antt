@@ -8,7 +8,7 @@ use Rattle.replica.specs.declared.Answer.{Answer}
 use Rattle.replica.specs.declared.Ended.TheVariants.{Query as Queried, At as Ended}
 use Rattle.replica.specs.declared.Phase.TheVariants.{Idle, Updating}
 use Rattle.replica.specs.declared.Sends.TheVariants.{Nothing}
-use Rattle.replica.specs.Handlers.{is_idle, read_rule, write_rule, crash_rule, crashed}
+use Rattle.replica.specs.Handlers.{is_idle, read_rule, write_rule, crash_rule}
 use Rattle.replica.specs.Numbers.{sent_by, pointed}
 use Rattle.tables.specs.declared.Found.{Found}
 use Rattle.tables.specs.declared.Found.TheVariants.{At, Missing}

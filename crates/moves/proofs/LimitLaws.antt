@@ -7,7 +7,7 @@ use Rattle.std.proofs.Math.Seq.{take-length}
 use Rattle.std.proofs.lemmas.Bool.{not-false, lt-leb}
 use Rattle.words.specs.Ranges.{within}
 use Rattle.replica.specs.declared.Answer.{Answer}
-use Rattle.replica.specs.Handlers.{is_idle, read_rule, write_rule, crash_rule, crashed}
+use Rattle.replica.specs.Handlers.{is_idle, read_rule, write_rule, crash_rule}
 use Rattle.replica.specs.Numbers.{sent_by}
 use Rattle.tables.specs.declared.Found.{Found}
 use Rattle.tables.specs.declared.Found.TheVariants.{At, Missing}
@@ -29,7 +29,6 @@ use Rattle.state.proofs.PairLaws.{within-ok}
 use Rattle.state.proofs.WellLaws.{Well, well}
 use Rattle.moves.specs.Free.{free_invoke, free_deliver, free_crash, free_step}
 use Rattle.moves.specs.Move.{Begins, Move}
-use Rattle.moves.specs.Move.Move.{counts}
 use Rattle.moves.proofs.AnswerLaws.{answer_at, plain-accepts}
 use Rattle.moves.proofs.FreeLaws.{accepting, taken_by, free-begins, moves-free}
 

@@ -5,7 +5,7 @@ use mathlib.Core.List.Memᴰ
 use mathlib.Core.List.{List, [], ◌∷◌, Memᴰ}
 use Rattle.std.proofs.Math.Option.{Option, none, some, none-ne-some, some-injective}
 use Rattle.words.specs.Stamps.{stamp_of, below}
-use Rattle.placing.specs.Operation.{Operation, Kind, listed}
+use Rattle.placing.specs.Operation.{Operation, Kind}
 use Rattle.placing.specs.Sequential.{Sequential}
 use Rattle.placing.specs.OneOrder.{Entry, numbered, earlier, point, order_key, placed, one_order}
 use Rattle.placing.specs.Facts.{Facts, Sourced}

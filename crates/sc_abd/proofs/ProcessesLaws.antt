@@ -1,7 +1,6 @@
 -- The processes in a set, listed: the list tells the set, and that of a replier set is the list of the processes in `responses`.
 use Rattle.std.specs.Prelude.{ℕ, zero, suc, ◌+◌, ◌/◌, ◌%◌, ◌^◌, ◌≤◌, ◌<◌, ◌≡◌, refl, Bool, true, false, cond, ◌||◌, List, [], ◌∷◌, eqb}
-use Rattle.std.proofs.Common.{sym, ap, ap₂, ◌∙◌, lt_of_lt_of_le, pow-suc, add-one, arith, pow_pos, pow_mono, shr_lt, eq-eqb, ne_eqb, le-leb}
-use Rattle.std.proofs.Math.Bool.{or-true}
+use Rattle.std.proofs.Common.{sym, ap, ap₂, ◌∙◌, lt_of_lt_of_le, pow-suc, add-one, arith, pow_mono, shr_lt, eq-eqb, ne_eqb, le-leb}
 use Rattle.std.proofs.Math.Decide.{ℕ_discrete, dec_lt}
 use Rattle.std.proofs.Math.Nat.{div-eq_of_lt}
 use Rattle.words.specs.Quorum.{member}

@@ -1,5 +1,5 @@
 -- What an accepted event says: none of its checks held, and the state that it gives is the next one by the plain rules.
-use Rattle.std.specs.Prelude.{ℕ, ◌+◌, ◌-◌, ◌≤◌, ◌<◌, ◌≡◌, refl, Bool, true, false, not, cond, ◌||◌, [], ◌∷◌, ◌++◌, eqb, leb, ℤ, length, get_or}
+use Rattle.std.specs.Prelude.{ℕ, ◌+◌, ◌-◌, ◌≤◌, ◌<◌, ◌≡◌, refl, Bool, true, false, not, cond, ◌||◌, [], ◌∷◌, ◌++◌, eqb, leb, ℤ, length}
 use Rattle.std.proofs.Common.{sym, ap, subst, ◌∙◌, arith, leb-false, ltb-false, eq-eqb}
 use Rattle.std.proofs.Math.Seq.{take-length}
 use Rattle.std.proofs.lemmas.Bool.{eqb-false, not-false}
@@ -11,13 +11,13 @@ use Rattle.words.specs.Ranges.{within}
 use Rattle.replica.specs.declared.Answer.{Answer}
 use Rattle.replica.specs.declared.Replica.{Replica}
 use Rattle.replica.specs.Handlers.{unless_refused, refused, is_idle, read_refusal, read_rule, read_begun, write_refusal, write_rule, write_begun}
-use Rattle.replica.specs.Handlers.{query_refusal, query_rule, query_received, update_refusal, update_rule, update_received}
-use Rattle.replica.specs.Handlers.{response_refusal, response_rule, response_received, ack_refusal, ack_rule, ack_received}
+use Rattle.replica.specs.Handlers.{query_refusal, query_received, update_refusal, update_received}
+use Rattle.replica.specs.Handlers.{response_refusal, response_received, ack_refusal, ack_received}
 use Rattle.replica.specs.Handlers.{crash_refusal as down_for, crash_rule, crashed}
 use Rattle.replica.specs.Numbers.{sent_by, pointed}
 use Rattle.tables.specs.declared.Found.{Found}
 use Rattle.tables.specs.declared.Found.TheVariants.{At, Missing}
-use Rattle.tables.specs.Tables.{empty_message, seek, removed}
+use Rattle.tables.specs.Tables.{seek, removed}
 use Rattle.tables.specs.TableLaws.{seek-at}
 use Rattle.state.specs.State.{State, replica_of}
 use Rattle.state.specs.Step.{Outcome, outcome, check, full, no_room, invoke_refusal, lose_refusal, asked_register}

@@ -1,14 +1,14 @@
 -- The counting rule excludes the bench with a made-up message count.
-use Rattle.std.specs.Prelude.{ℕ, ◌+◌, ◌-◌, ◌≡◌, refl, cond, [], eqb}
+use Rattle.std.specs.Prelude.{ℕ, ◌≡◌, refl, []}
 use Rattle.std.proofs.Common.{arith}
 use Rattle.replica.specs.Handlers.{crash_rule, crash_refusal, crashed, down_refusal}
 use Rattle.state.specs.declared.Event.{Event}
 use Rattle.state.specs.declared.Event.TheVariants.{Crash}
-use Rattle.state.specs.State.{State, fresh}
-use Rattle.state.specs.Step.{Outcome, step, step_crash}
+use Rattle.state.specs.State.{fresh}
+use Rattle.state.specs.Step.{step, step_crash}
 use Rattle.state.specs.Counting.{CountingRule}
 use Rattle.state.specs.Counting.RunBy.{begun, then}
-use Rattle.state.specs.MadeUp.{said_sent, one_more, one_fewer, made_up}
+use Rattle.state.specs.MadeUp.{made_up}
 
 -- a crash sends nothing, and the count is 1
 pub made_up-miscounts : CountingRule made_up → ⊥

@@ -1,28 +1,19 @@
 -- The next states, by the plain rules: what an event comes to where no guard and no check holds.
-use Rattle.std.specs.Prelude.{ℕ, ◌+◌, ◌-◌, ◌≤◌, ◌<◌, ◌≡◌, refl, Bool, true, false, not, cond, ◌||◌, [], ◌∷◌, ◌++◌, eqb, leb, ℤ, length, get_or}
-use Rattle.std.proofs.Common.{sym, ap, subst, ◌∙◌, arith, leb-false, ltb-false, eq-eqb}
-use Rattle.std.proofs.Math.Seq.{take-length}
-use Rattle.std.proofs.lemmas.Bool.{eqb-false, not-false}
+use Rattle.std.specs.Prelude.{ℕ, ◌+◌, [], ◌∷◌, ◌++◌, ℤ, length, get_or}
 use Rattle.words.specs.declared.Body.{Body}
 use Rattle.words.specs.declared.Body.TheVariants.{Query, Response, Update, Ack}
 use Rattle.words.specs.declared.Message.{Message}
-use Rattle.words.specs.declared.Pid.{Pid}
-use Rattle.words.specs.Ranges.{within}
 use Rattle.replica.specs.declared.Answer.{Answer}
 use Rattle.replica.specs.declared.Replica.{Replica}
-use Rattle.replica.specs.Handlers.{unless_refused, refused, is_idle, read_refusal, read_rule, read_begun, write_refusal, write_rule, write_begun}
-use Rattle.replica.specs.Handlers.{query_refusal, query_rule, query_received, update_refusal, update_rule, update_received}
-use Rattle.replica.specs.Handlers.{response_refusal, response_rule, response_received, ack_refusal, ack_rule, ack_received}
-use Rattle.replica.specs.Handlers.{crash_refusal as down_for, crash_rule, crashed}
-use Rattle.replica.specs.Numbers.{sent_by, pointed}
-use Rattle.tables.specs.declared.Found.{Found}
-use Rattle.tables.specs.declared.Found.TheVariants.{At, Missing}
-use Rattle.tables.specs.Tables.{empty_message, seek, removed}
-use Rattle.tables.specs.TableLaws.{seek-at}
+use Rattle.replica.specs.Handlers.{read_rule, write_rule}
+use Rattle.replica.specs.Handlers.{query_rule, update_rule}
+use Rattle.replica.specs.Handlers.{response_rule, ack_rule}
+use Rattle.replica.specs.Handlers.{crash_rule}
+use Rattle.replica.specs.Numbers.{pointed}
+use Rattle.tables.specs.Tables.{empty_message, removed}
 use Rattle.state.specs.State.{State, replica_of}
-use Rattle.state.specs.Step.{Outcome, outcome, check, full, no_room, invoke_refusal, lose_refusal, asked_register}
-use Rattle.state.specs.Step.{read_row, write_row, answered_rows, moved, without_message, heard_by, heard}
-use Rattle.state.specs.Step.{step_read, step_write, deliver_at, step_deliver, step_crash, lose_at, step_lose}
+use Rattle.state.specs.Step.{asked_register}
+use Rattle.state.specs.Step.{read_row, write_row, answered_rows, moved}
 
 -- what the plain rules answer to a message
 abbrev pub plain_by : State → Replica → Message → Body → Answer

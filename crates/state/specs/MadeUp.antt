@@ -1,14 +1,9 @@
 -- A bench with a made-up message count: it does what `step` does, and says of every state that one message more was sent. Before the next event it
 -- takes that one off again. Document 01 says that the counting rule excludes it.
-use Rattle.std.specs.Prelude.{ℕ, ◌+◌, ◌-◌, ◌≡◌, refl, cond, [], eqb}
-use Rattle.std.proofs.Common.{arith}
-use Rattle.replica.specs.Handlers.{crash_rule, crash_refusal, crashed, down_refusal}
+use Rattle.std.specs.Prelude.{ℕ, ◌+◌, ◌-◌, cond, eqb}
 use Rattle.state.specs.declared.Event.{Event}
-use Rattle.state.specs.declared.Event.TheVariants.{Crash}
-use Rattle.state.specs.State.{State, fresh}
-use Rattle.state.specs.Step.{Outcome, step, step_crash}
-use Rattle.state.specs.Counting.{CountingRule}
-use Rattle.state.specs.Counting.RunBy.{begun, then}
+use Rattle.state.specs.State.{State}
+use Rattle.state.specs.Step.{Outcome, step}
 
 -- the state, said to have sent so many messages
 abbrev pub said_sent : ℕ → State → State

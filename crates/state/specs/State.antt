@@ -1,6 +1,6 @@
 -- The state of a bench: document 01, "State". The messages in flight and the rows of the history are lists without unused places; the lent
 -- tables are these lists with empty places behind them.
-use Rattle.std.specs.Prelude.{ℕ, ◌-◌, ◌+◌, Bool, true, false, cond, List, [], ◌∷◌, ◌++◌, length, get_or, set, replicate, take}
+use Rattle.std.specs.Prelude.{ℕ, ◌-◌, false, List, [], ◌++◌, length, get_or, replicate, take}
 use Rattle.words.specs.declared.Message.{Message}
 use Rattle.words.specs.Limits.{most_flight, most_rows}
 use Rattle.words.specs.Stamps.{start_pair}

@@ -1,12 +1,11 @@
 -- One event: document 01, "Events" and "Numbers of refusal". `step` is total: it gives the number of the first check that holds and the state as
 -- it was, or 0 and the next state. (18 and the test of well-formedness stand before it.)
-use Rattle.std.specs.Prelude.{ℕ, suc, ◌+◌, ◌-◌, Bool, true, false, cond, not, ◌&&◌, ◌||◌, List, [], ◌∷◌, ◌++◌, eqb, ltb, leb, ℤ, pos, length, get_or, set}
+use Rattle.std.specs.Prelude.{ℕ, ◌+◌, ◌-◌, Bool, cond, not, ◌||◌, List, [], ◌∷◌, ◌++◌, eqb, ltb, leb, ℤ, pos, length, get_or, set}
 use Rattle.std.proofs.Math.Option
 use Rattle.std.proofs.Math.Option.{Option, some, none}
 use Rattle.words.specs.declared.Message.{Message}
 use Rattle.words.specs.declared.Body.{Body}
 use Rattle.words.specs.declared.Body.TheVariants.{Query, Response, Update, Ack}
-use Rattle.words.specs.declared.Pid.{Pid}
 use Rattle.words.specs.declared.Pair.{Pair}
 use Rattle.words.specs.declared.Stamp.{Stamp}
 use Rattle.words.specs.declared.Time.{Time}

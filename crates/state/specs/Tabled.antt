@@ -1,6 +1,6 @@
 -- A state as a bench and two lent tables: 18 is given exactly when `tabled` is false. The tables have 512 messages and 1,024 rows; the places behind
 -- the messages in flight and behind the rows in use are empty; and the state that they hold is well formed.
-use Rattle.std.specs.Prelude.{ℕ, Bool, true, false, not, ◌&&◌, List, eqb, leb, length, drop}
+use Rattle.std.specs.Prelude.{Bool, false, not, ◌&&◌, List, eqb, leb, length, drop}
 use Rattle.words.specs.declared.Body.{Body}
 use Rattle.words.specs.declared.Body.TheVariants.{Query, Response, Update, Ack}
 use Rattle.words.specs.declared.Message.{Message}
