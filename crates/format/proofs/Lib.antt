@@ -1,4 +1,3 @@
 pub mod TwosComplement
-pub mod Whole
 pub mod FileLaws
 pub mod ParseLaws

@@ -3,7 +3,7 @@ use Prim.Native.Nat.{ℕ, zero, suc, ◌-◌, ◌≤◌, ◌<◌}
 use mathlib.Core.Path.{◌≡◌, refl, ap, ◌∙◌, sym}
 use native.Mathlib.Omega.{arith}
 use native.Mathlib.Nat.{zero-add}
-use lib.IntN.{ℤ, pos, negsuc, ◌-ℤ◌}
+use lib.IntN.{pos, negsuc, ◌-ℤ◌}
 use mir.Syntax.{w64}
 use mir.Val.{to_z}
 use borrow.Author.Tests.{lt-ltb, le-ltb}
