@@ -1,3 +1,2 @@
-pub mod TwosComplement
 pub mod FileLaws
 pub mod ParseLaws
