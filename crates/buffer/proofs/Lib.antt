@@ -1,3 +1,1 @@
-pub mod CallsMutRef
-pub mod Ends
 pub mod PrintingLaws

@@ -1,5 +1,5 @@
 -- A text that was written into an output that is long enough is the reply and what is left; a shorter output stays.
-use Rattle.std.specs.Prelude.{ℕ, ◌+◌, ◌≤◌, ◌<◌, ◌≡◌, Bool, List, leb}
+use Rattle.std.specs.Prelude.{ℕ, ◌≤◌, ◌<◌, ◌≡◌, Bool, List}
 use Rattle.std.proofs.Common.{sym, subst, ◌∙◌, arith, length-take, le-leb}
 use Rattle.std.proofs.Math.Path.{ap}
 use Rattle.std.proofs.Math.Bool.{cond}
@@ -8,7 +8,6 @@ use Rattle.std.proofs.lemmas.Bool.{lt-leb}
 use Rattle.tables.specs.Tables.{laid_at}
 use Rattle.text.specs.Written.{Wrote}
 use Rattle.text.specs.LaidLaws.{laid-length}
-use Rattle.buffer.specs.declared.Printed.{Printed}
 use Rattle.buffer.specs.Printing.{print_reply, print_left, Fronts}
 
 module _ (enough : ℕ) (text out : List ℕ) where

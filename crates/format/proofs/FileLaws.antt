@@ -1,6 +1,6 @@
 -- What a file that is refused by none of 1 to 5 has: all its seven first bytes, and N and M in range.
 use Rattle.std.specs.Prelude.{ℕ, ◌-◌, ◌≤◌, ◌≡◌, refl, Bool, true, false, cond, not, ◌||◌, List, eqb, ltb, length}
-use Rattle.std.proofs.Common.{sym, true≢false, ltb-false}
+use Rattle.std.proofs.Common.{true≢false, ltb-false}
 use Rattle.std.proofs.lemmas.Bool.{eqb-false}
 use Rattle.words.specs.Ranges.{within}
 use Rattle.format.specs.Format.{byte_at, word_at, file_refusal}

@@ -1,4 +1,2 @@
-pub mod TwosComplement
-pub mod Whole
 pub mod FileLaws
 pub mod ParseLaws

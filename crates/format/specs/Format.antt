@@ -1,5 +1,5 @@
 -- The schedule file: document 01, "Schedule file" and "Numbers of refusal". A file is a list of bytes.
-use Rattle.std.specs.Prelude.{ℕ, ◌+◌, ◌-◌, ◌*◌, Bool, cond, not, ◌||◌, List, eqb, ltb, leb, ℤ, length, get_or}
+use Rattle.std.specs.Prelude.{ℕ, ◌+◌, ◌-◌, ◌*◌, cond, not, ◌||◌, List, eqb, ltb, leb, ℤ, length, get_or}
 use Rattle.std.specs.Int.{w64}
 use Rattle.std.proofs.Common.{to_z}
 use Rattle.words.specs.Ranges.{within}

@@ -87,6 +87,7 @@ fn lose_at(bytes: &[u8], at: usize) -> Parse
     Parse::Next(Event::Lose(k), at + LOSE_SIZE)
 }
 
+#[tactic(auto, unfolding(crate::specs::Format::event_at))]
 pub fn event_at(bytes: &[u8], at: usize) -> Parse
     ensures { result ≡ event_at bytes.now at }
 {

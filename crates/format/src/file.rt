@@ -29,6 +29,7 @@ fn first(holds: bool, number: u8, later: u8) -> u8
     if holds { number } else { later }
 }
 
+#[tactic(auto, unfolding(crate::specs::Format::file_refusal))]
 pub fn file_refusal(bytes: &[u8]) -> u8
     ensures { result ≡ file_refusal bytes.now }
 {

@@ -1,5 +1,5 @@
 -- The text of a replay: document 01, "Replay output", line by line. A text is a list of bytes.
-use Rattle.std.specs.Prelude.{ℕ, zero, suc, ◌+◌, ◌-◌, ◌/◌, ◌%◌, Bool, true, false, cond, List, [], ◌∷◌, ◌++◌, eqb, ltb, ℤ, pos, negsuc, length, get_or}
+use Rattle.std.specs.Prelude.{ℕ, zero, suc, ◌+◌, ◌-◌, ◌/◌, ◌%◌, cond, List, [], ◌∷◌, ◌++◌, eqb, ltb, ℤ, pos, negsuc, length, get_or}
 use Rattle.words.specs.declared.Pair.{Pair}
 use Rattle.words.specs.Stamps.{start_pair}
 use Rattle.replica.specs.declared.Replica.{Replica}

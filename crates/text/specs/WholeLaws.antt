@@ -1,6 +1,6 @@
 -- The whole text in a buffer: the line of the run, the rows and the tail of a bench, written one after another, are the text of the state that the
 -- bench and its tables hold, and 81,563 bytes are enough for it.
-use Rattle.std.specs.Prelude.{ℕ, ◌+◌, ◌*◌, ◌≤◌, List, ◌++◌, length, take}
+use Rattle.std.specs.Prelude.{ℕ, ◌+◌, ◌*◌, ◌≤◌, List, length, take}
 use Rattle.std.proofs.Common.{arith}
 use Rattle.words.specs.declared.Message.{Message}
 use Rattle.tables.specs.declared.Row.{Row}

@@ -1,0 +1,14 @@
+-- What is taken, and what follows it.
+use Rattle.std.proofs.Common.{◌∙◌, sym}
+use Rattle.state.specs.declared.Event.TheVariants.{Read}
+use Rattle.script.specs.declared.Line.TheVariants.{Does}
+use Rattle.script.specs.Meaning.{end_then, fields_of}
+use Rattle.script.proofs.meaning.read_line.Goals as goal
+
+pub returns-in-Numbers : goal.returns-in-Numbers
+unfolding fields_of
+returns-in-Numbers c = c.ended.ensures ∙ sym (c.in-Numbers.ensures.1 (λ p x rest. end_then rest (Does (Read (record { 0 = p }) x))))
+
+pub returns-in-Wrong : goal.returns-in-Wrong
+unfolding fields_of
+returns-in-Wrong c = sym (c.in-Wrong.ensures (λ p x rest. end_then rest (Does (Read (record { 0 = p }) x))))
