@@ -8,11 +8,11 @@ pub returns : goal.returns
 returns c =
     let a = c.args in
     let clear =
-        c.is_start-clear.ensures ∙ ap (λ (k : ℕ). starts a.n a.m k c.row_count-history.result) c.message_count-places.ensures
-        ∙ ap (λ (k : ℕ). starts a.n a.m (length a.messages.now) k) c.row_count-history.ensures
-        in
+    c.is_start-clear.ensures ∙ ap (λ (k : ℕ). starts a.n a.m k c.row_count-history.result) c.message_count-places.ensures
+    ∙ ap (λ (k : ℕ). starts a.n a.m (length a.messages.now) k) c.row_count-history.ensures
+    in
     let reply =
-        c.start_reply.ensures ∙ ap (λ (k : ℕ). start_reply a.n a.m k c.row_count-history.result) c.message_count-places.ensures
-        ∙ ap (λ (k : ℕ). start_reply a.n a.m (length a.messages.now) k) c.row_count-history.ensures
-        in
+    c.start_reply.ensures ∙ ap (λ (k : ℕ). start_reply a.n a.m k c.row_count-history.result) c.message_count-places.ensures
+    ∙ ap (λ (k : ℕ). start_reply a.n a.m (length a.messages.now) k) c.row_count-history.ensures
+    in
     (reply, (messages-cleared a.n a.m a.messages.now a.rows.now _ clear _ c.clear_messages_if.ensures, rows-cleared a.n a.m a.messages.now a.rows.now _ clear _ c.clear_rows_if.ensures))
