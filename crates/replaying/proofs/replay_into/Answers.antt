@@ -1,10 +1,8 @@
 -- A file that starts a bench is reported; one that does not prints its number.
-use Rattle.std.proofs.Common.{◌≡◌, ◌≤◌, ◌∙◌, sym, length, replicate, take, arith}
+use Rattle.std.proofs.Common.{◌≤◌, ◌∙◌, sym, length, replicate, take, arith}
 use Rattle.std.proofs.lemmas.List.{length-replicate}
 use Rattle.order.specs.Operations.{order_of}
-use Rattle.text.specs.Printed.{printed_refusal}
-use Rattle.text.specs.Written.{Wrote}
-use Rattle.replaying.proofs.ReplayedLaws.{Stopped, begun, order-asks, report-asks, all_listed, text-written, text-refused}
+use Rattle.replaying.proofs.ReplayedLaws.{begun, order-asks, report-asks, all_listed, text-written, text-refused}
 use Rattle.replaying.proofs.replay_into.Goals as goal
 
 pub fill_order-count-requires : goal.fill_order-count-requires
@@ -22,7 +20,7 @@ put_report-requires c =
     let count = c.fill_order-count.result in
     let listing = c.fill_order-count.new.out in
     let listed : count ≤ length listing =
-        all_listed count (order_of (take c.rows_of-used.result ran.new.rows)) listing c.fill_order-count.ensures.0 c.fill_order-count.ensures.1 in
+    all_listed count (order_of (take c.rows_of-used.result ran.new.rows)) listing c.fill_order-count.ensures.0 c.fill_order-count.ensures.1 in
     report-asks c.args.bytes.now ran.result ran.new.rows s c.bench_of-bench.result c.bench_of-bench.ensures (length c.args.out.now) c.requires.0 count (length listing) listed
     (omega (arith, listed, c.fill_order-count.auto.out, c.requires.1))
 
