@@ -1,5 +1,4 @@
 use Rattle.std.proofs.Common.{ℕ, ◌≡◌, ap, take, refl, arith, rules}
-use Rattle.words.specs.declared.Message.{Message}
 use Rattle.tables.specs.Tables.{empty_message}
 use Rattle.text.specs.WrittenLaws.{nothing, and_next, as_text}
 use Rattle.inflight.specs.Flight.{message_line, message_lines}
