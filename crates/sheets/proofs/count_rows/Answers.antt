@@ -1,5 +1,7 @@
 -- A turn counts one row more.
-use Rattle.std.proofs.Common.{arith}
+use Rattle.std.proofs.Common.{[], ◌∷◌, ap, ◌∙◌, arith}
+use Rattle.tables.specs.declared.Row.{Row}
+use Rattle.figures.specs.Figures.{history_of}
 use Rattle.figures.specs.HistoryLaws.{none-few, one-row, few-more, few-room, all-rows}
 use Rattle.sheets.proofs.count_rows.Goals as goal
 
@@ -13,7 +15,9 @@ pub loop-i-preserved : goal.loop-i-preserved
 loop-i-preserved c =
     record {
       within = omega arith;
-      counted = ?;
+      counted =
+          one-row c.args.rows.now c.loop-i.i c.loop-i.history c.of_row-one.result c.plus_history-history.result (omega arith) c.loop-i.invariant.counted
+          (c.of_row-one.ensures.0 ∙ ap (λ (row : Row). history_of (row ∷ [])) c.row_at-row.ensures) c.plus_history-history.ensures;
       few = few-more c.loop-i.i c.loop-i.history c.of_row-one.result c.plus_history-history.result c.loop-i.invariant.few c.of_row-one.ensures.1 c.plus_history-history.ensures;
     }
 
