@@ -1,6 +1,6 @@
 use Rattle.std.proofs.Common.{refl}
 use Rattle.composing.specs.declared.Composed.TheVariants.{Wrong}
-use Rattle.composing.proofs.ComposeLaws.{composed-by, composed-fits}
+use Rattle.composing.proofs.ComposeLaws.{composed-by}
 use Rattle.composing.proofs.compose.Goals as goal
 
 pub returns-in-Bench-clause-value : goal.returns-in-Bench-clause-value

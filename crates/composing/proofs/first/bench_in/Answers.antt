@@ -15,7 +15,7 @@ pub ranged-requires : goal.ranged-requires
 unfolding script_of
 ranged-requires c =
     let opens =
-        open-bench c.args.text.now c.loop-at.at c.loop-at-test.true c.part-parted.result c.part-parted.ensures c.loop-at.i c.in-Bench.n c.in-Bench.m c.in-Bench.is in
+    open-bench c.args.text.now c.loop-at.at c.loop-at-test.true c.part-parted.result c.part-parted.ensures c.loop-at.i c.in-Bench.n c.in-Bench.m c.in-Bench.is in
     ((c.part-parted.ensures.inside, omega arith), sym c.loop-at.invariant.same ∙ opens)
 
 pub returns-in-Does : goal.returns-in-Does
