@@ -3,7 +3,7 @@ use Rattle.std.proofs.Common.{◌∙◌, ap, sym, refl}
 use Rattle.state.specs.State.{view}
 use Rattle.format.specs.Format.{event_at}
 use Rattle.schedule.specs.Run.{ran}
-use Rattle.schedule.proofs.TurnLaws.{begins, goes, smaller, ends}
+use Rattle.schedule.proofs.TurnLaws.{goes, smaller, ends}
 use Rattle.schedule.proofs.run_events.Goals as goal
 
 pub loop-place-smaller : goal.loop-place-smaller

@@ -1,5 +1,5 @@
 -- A file that is not refused has its first seven bytes.
-use Rattle.std.proofs.Common.{◌≡◌, ◌<◌, ◌≤◌, ◌∙◌, sym, length, arith, eq-eqb, ne_eqb}
+use Rattle.std.proofs.Common.{◌∙◌, sym, arith, eq-eqb, ne_eqb}
 use Rattle.bench.specs.StartLaws.{accepted-reply, refused-reply}
 use Rattle.schedule.specs.Opening.{opening_refusal, begun, opened}
 use Rattle.schedule.proofs.OpeningLaws.{opens-file}
