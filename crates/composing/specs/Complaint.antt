@@ -21,8 +21,8 @@ abbrev pub text_too_many : List ℕ
 text_too_many = 58 ∷ (32 ∷ (116 ∷ (111 ∷ (111 ∷ (32 ∷ (109 ∷ (97 ∷ (110 ∷ (121 ∷ (32 ∷ (119 ∷ (111 ∷ (114 ∷ (100 ∷ (115 ∷ [])))))))))))))))
 
 -- `: not a number`
-abbrev pub text_not_aNumber : List ℕ
-text_not_aNumber = 58 ∷ (32 ∷ (110 ∷ (111 ∷ (116 ∷ (32 ∷ (97 ∷ (32 ∷ (110 ∷ (117 ∷ (109 ∷ (98 ∷ (101 ∷ (114 ∷ [])))))))))))))
+abbrev pub text_not_a_number : List ℕ
+text_not_a_number = 58 ∷ (32 ∷ (110 ∷ (111 ∷ (116 ∷ (32 ∷ (97 ∷ (32 ∷ (110 ∷ (117 ∷ (109 ∷ (98 ∷ (101 ∷ (114 ∷ [])))))))))))))
 
 -- `: too large for its field`
 abbrev pub text_too_large : List ℕ
@@ -48,7 +48,7 @@ unfoldable pub fault_text : Fault → List ℕ
 fault_text Unknown = text_unknown
 fault_text Missing = text_missing
 fault_text TooMany = text_too_many
-fault_text NotANumber = text_not_aNumber
+fault_text NotANumber = text_not_a_number
 fault_text TooLarge = text_too_large
 fault_text NoBench = text_no_bench
 fault_text Processes = text_processes
