@@ -1,5 +1,5 @@
 pub mod RunLaws
-pub mod LeftLaws
+pub mod BehindLaws
 pub mod TurnLaws
 pub mod OpeningLaws
 pub mod FileLaws

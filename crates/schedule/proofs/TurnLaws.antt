@@ -19,7 +19,7 @@ use Rattle.advance.specs.Good.{messages-are, rows_are, bench-is}
 use Rattle.schedule.specs.declared.Turn.{Turn}
 use Rattle.schedule.specs.Run.{Ran, stopped, ran}
 use Rattle.schedule.specs.EventLaws.{Onward, onward}
-use Rattle.schedule.proofs.LeftLaws.{left, left_by, turned_left}
+use Rattle.schedule.proofs.BehindLaws.{left, left_by, turned_left}
 use Rattle.schedule.proofs.RunLaws.{run-turn, run-well-formed, run-sized}
 use Rattle.advance.proofs.TabledLaws.{step-well, step-sized, tabled-well, tabled-sized, holds-tabled, holds-view}
 use Rattle.schedule.specs.Turns.{RanOn, is_next, event_of, behind_of, number_of, went_on, stopped_at, begun_at, ended_at, Went, went, turn_of, Turned}
