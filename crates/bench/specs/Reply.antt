@@ -1,13 +1,13 @@
 -- What `step` replies, and what it leaves in the two tables. Where the bench and its tables are not well formed it gives 18 and changes nothing; else it
 -- is `step` of the state that they hold.
-use Rattle.std.specs.Prelude.{ℕ, Bool, cond, List}
+use Rattle.std.specs.Prelude.{cond, List}
 use Rattle.words.specs.declared.Message.{Message}
 use Rattle.tables.specs.declared.Row.{Row}
 use Rattle.state.specs.declared.Bench.{Bench}
 use Rattle.state.specs.declared.Event.{Event}
 use Rattle.state.specs.declared.Stepped.{Stepped}
 use Rattle.state.specs.State.{view, laid_messages, laid_rows}
-use Rattle.state.specs.Step.{Outcome, step}
+use Rattle.state.specs.Step.{step}
 use Rattle.state.specs.Tabled.{tabled, bench_of}
 
 abbrev pub unformed : Bench → Stepped

@@ -1,4 +1,1 @@
-pub mod MutRef2
-pub mod Shared
-pub mod Callees
 pub mod ReplayedLaws

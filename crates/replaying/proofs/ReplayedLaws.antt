@@ -1,11 +1,11 @@
 -- What a run over a table of 1,024 rows says of its file, from whether its bench has processes; and that the text which is written from it is the replay's.
-use Rattle.std.specs.Prelude.{ℕ, ◌+◌, ◌-◌, ◌≤◌, ◌<◌, ◌≡◌, Bool, true, false, not, List, ◌++◌, eqb, leb, get_or, take, replicate}
+use Rattle.std.specs.Prelude.{ℕ, ◌+◌, ◌-◌, ◌≤◌, ◌<◌, ◌≡◌, Bool, true, false, not, List, ◌++◌, eqb, get_or, take, replicate}
 use Rattle.std.proofs.Math.Path.{refl, ap}
 use Rattle.std.proofs.Common.{sym, subst, ◌∙◌, true≢false, arith, length-append, length-take, get_or-take, eqb-true, eq-eqb, le-leb}
 use Rattle.std.proofs.Math.Bool.{cond}
 use Rattle.std.proofs.Math.ListN.{length}
 use Rattle.std.proofs.Math.Seq.{take-append_seam}
-use Rattle.std.proofs.lemmas.Bool.{eqb-false, not-false, lt-leb}
+use Rattle.std.proofs.lemmas.Bool.{not-false, lt-leb}
 use Rattle.words.specs.declared.Message.{Message}
 use Rattle.tables.specs.declared.Row.{Row}
 use Rattle.tables.specs.Tables.{empty_message, empty_row, laid_at}
@@ -13,10 +13,10 @@ use Rattle.state.specs.declared.Bench.{Bench}
 use Rattle.state.specs.declared.Stepped.{Stepped}
 use Rattle.state.specs.State.{State, view, laid_messages, laid_rows}
 use Rattle.state.specs.Tabled.{tabled, bench_of}
-use Rattle.state.specs.WellFormed.{every, well_formed}
+use Rattle.state.specs.WellFormed.{every}
 use Rattle.state.proofs.WellLaws.{Well, well}
 use Rattle.state.proofs.Keeps.{reached-well-formed}
-use Rattle.state.proofs.Sized.{Sized, reached-sized}
+use Rattle.state.proofs.Sized.{reached-sized}
 use Rattle.state.specs.Reached.{Reached}
 use Rattle.advance.proofs.TabledLaws.{Holds, holds-tabled, holds-view}
 use Rattle.order.specs.Operations.{order_of}

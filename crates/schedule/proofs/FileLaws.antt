@@ -1,16 +1,15 @@
 -- The run of a whole file: a file that opens starts from a fresh bench on empty tables, and what its events leave is what `run` promises; one that does not open leaves
 -- all as it was. The state that it stops at was reached from a fresh start.
 use Rattle.std.specs.Prelude.{ℕ, ◌≡◌, refl, Bool, List, eqb, length, replicate}
-use Rattle.std.proofs.Common.{sym, subst, ◌∙◌, eqb-true, eq-eqb, ne_eqb}
+use Rattle.std.proofs.Common.{sym, ◌∙◌, eqb-true, eq-eqb}
 use Rattle.std.proofs.Math.Path.{ap}
 use Rattle.std.proofs.Math.Bool.{true, false, cond}
-use Rattle.std.proofs.lemmas.Bool.{eqb-false}
 use Rattle.words.specs.declared.Message.{Message}
 use Rattle.tables.specs.declared.Row.{Row}
 use Rattle.tables.specs.Tables.{empty_message, empty_row}
 use Rattle.state.specs.declared.Bench.{Bench}
 use Rattle.state.specs.declared.Stepped.{Stepped}
-use Rattle.state.specs.State.{State, view, laid_messages, laid_rows}
+use Rattle.state.specs.State.{view, laid_messages, laid_rows}
 use Rattle.state.specs.Tabled.{tabled, bench_of}
 use Rattle.state.proofs.Keeps.{reached-well-formed}
 use Rattle.state.proofs.Sized.{reached-sized}

@@ -1,9 +1,3 @@
-pub mod Parses
-pub mod OfTurn
-pub mod Callees
-pub mod Mut2Ref
-pub mod FileCalls
-pub mod Ends
 pub mod RunLaws
 pub mod TurnLaws
 pub mod OpeningLaws

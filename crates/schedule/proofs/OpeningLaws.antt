@@ -1,6 +1,6 @@
 -- The first check of a file that holds, from what its tests say; and what a file that opens has.
-use Rattle.std.specs.Prelude.{ℕ, ◌<◌, ◌≡◌, refl, Bool, true, false, not, ◌&&◌, List, eqb, length}
-use Rattle.std.proofs.Common.{sym, ◌∙◌, arith, eqb-true}
+use Rattle.std.specs.Prelude.{ℕ, ◌≡◌, refl, Bool, true, false, not, ◌&&◌, List, eqb}
+use Rattle.std.proofs.Common.{sym, ◌∙◌, eqb-true}
 use Rattle.std.proofs.Math.Path.{ap}
 use Rattle.std.proofs.lemmas.Bool.{eqb-false}
 use Rattle.words.specs.RangeLaws.{and_left, and_right}

@@ -1,7 +1,7 @@
 -- A run is its first event and the run of the rest, however many events it may have at most; and what every accepted event keeps, a run keeps.
-use Prim.Native.Nat.{ℕ, zero, suc, ◌+◌, ◌-◌, ◌<◌, ◌≤◌}
+use Prim.Native.Nat.{ℕ, zero, suc, ◌-◌, ◌<◌, ◌≤◌}
 use Rattle.std.specs.Prelude.{◌≡◌, refl, Bool, true, false, cond, List, eqb, length}
-use Rattle.std.proofs.Common.{sym, ap, subst, ◌∙◌, arith, eqb-true}
+use Rattle.std.proofs.Common.{ap, ◌∙◌, arith, eqb-true}
 use Rattle.state.specs.declared.Event.{Event}
 use Rattle.state.specs.State.{State}
 use Rattle.state.specs.Step.{Outcome, step}

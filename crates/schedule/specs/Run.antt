@@ -1,6 +1,5 @@
 -- The run of a schedule's events from a state: document 01, "Schedule file". It stops at the end, at bytes that are no event, or at the first event that is refused.
 use Rattle.std.specs.Prelude.{ℕ, zero, suc, ◌-◌, cond, List, eqb, length}
-use Rattle.state.specs.declared.Event.{Event}
 use Rattle.state.specs.State.{State}
 use Rattle.state.specs.Step.{Outcome, step}
 use Rattle.format.specs.declared.Parse.{Parse}
