@@ -1,5 +1,5 @@
 -- A wait is an exact difference: every completed operation of a schedule was invoked before it was answered, so that its wait and its invocation time make its response time.
-use Rattle.std.specs.Prelude.{ℕ, suc, ◌+◌, ◌-◌, ◌<◌, ◌≡◌, refl, Bool, true, false, cond, eqb, length, get_or}
+use Rattle.std.specs.Prelude.{ℕ, suc, ◌+◌, ◌<◌, ◌≡◌, refl, Bool, true, false, cond, eqb, length, get_or}
 use Rattle.std.proofs.Common.{sym, subst, arith, eqb-true}
 use mathlib.Core.List.Memᴰ
 use mathlib.Core.List.{List, [], Memᴰ}

@@ -109,8 +109,8 @@ module _ (files : List (List ℕ)) (s : Sheet) (c : Counts files s) (bytes : Lis
   abbrev more : List (List ℕ)
   more = files ++ (bytes ∷ [])
 
-  one_more : (of : List ℕ → ℕ) (n : ℕ) → n ≡ sum_over of files → n + of bytes ≡ sum_over of more
-  one_more of n e = omega (arith, over-append of files (bytes ∷ []))
+  one-more : (of : List ℕ → ℕ) (n : ℕ) → n ≡ sum_over of files → n + of bytes ≡ sum_over of more
+  one-more of n e = omega (arith, over-append of files (bytes ∷ []))
 
   number_more : (k : ℕ) → k < 32 → get_or (entered s (added_by bytes)).files k 0 ≡ count_if (λ b. eqb (file_refusal b) k) more
   number_more k l =
@@ -141,10 +141,10 @@ module _ (files : List (List ℕ)) (s : Sheet) (c : Counts files s) (bytes : Lis
         long = length-set s.files (added_by bytes).refusal _ ∙ c.long;
         by_number = number_more;
         history = history-more;
-        sent = one_more (λ b. (added_by b).traffic.sent) s.traffic.sent c.sent;
-        delivered = one_more (λ b. (added_by b).traffic.delivered) s.traffic.delivered c.delivered;
-        lost = one_more (λ b. (added_by b).traffic.lost) s.traffic.lost c.lost;
-        left = one_more (λ b. (added_by b).traffic.left) s.traffic.left c.left;
+        sent = one-more (λ b. (added_by b).traffic.sent) s.traffic.sent c.sent;
+        delivered = one-more (λ b. (added_by b).traffic.delivered) s.traffic.delivered c.delivered;
+        lost = one-more (λ b. (added_by b).traffic.lost) s.traffic.lost c.lost;
+        left = one-more (λ b. (added_by b).traffic.left) s.traffic.left c.left;
       }
 
 -- ---- one schedule after another
