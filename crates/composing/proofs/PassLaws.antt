@@ -1,6 +1,6 @@
 -- The passes over a text, line by line: what is left to do, from the line at a place and what stands behind it.
-use Rattle.std.specs.Prelude.{ℕ, zero, suc, ◌+◌, ◌-◌, ◌≤◌, ◌<◌, ◌≡◌, refl, Bool, true, false, cond, not, List, [], ◌∷◌, ◌++◌, ltb, length, take, drop}
-use Rattle.std.proofs.Common.{sym, ap, subst, ◌∙◌, append_assoc, append-nil, arith, add-one, length-append, length-drop, drop-drop, lt-ltb, le-ltb}
+use Rattle.std.specs.Prelude.{ℕ, suc, ◌+◌, ◌-◌, ◌≤◌, ◌<◌, ◌≡◌, refl, Bool, true, false, cond, not, List, [], ◌∷◌, ◌++◌, ltb, length, take, drop}
+use Rattle.std.proofs.Common.{sym, ap, ◌∙◌, append_assoc, append-nil, arith, add-one, length-append, length-drop, drop-drop, lt-ltb, le-ltb}
 use Rattle.words.specs.Ranges.{within}
 use Rattle.text.specs.Written.{Wrote}
 use Rattle.text.specs.WrittenLaws.{and_next, as_text, nothing}
@@ -14,12 +14,10 @@ use Rattle.script.specs.Lines.{before, behind, newline, lines}
 use Rattle.script.proofs.LineLaws.{lines-first, drop-behind, take-before, before-within}
 use Rattle.script.specs.ScanLaws.{at-end}
 use Rattle.script.specs.Meaning.{line_of}
-use Rattle.composing.specs.declared.Opening.{Opening}
 use Rattle.composing.specs.declared.Opening.TheVariants as O
 use Rattle.composing.specs.declared.Parted.{Parted}
-use Rattle.composing.specs.declared.Survey.{Survey}
 use Rattle.composing.specs.declared.Survey.TheVariants as S
-use Rattle.composing.specs.Script.{Listed, listed, faulty, preceded, one_more, followed, following, Script, script, wrong, as_script, begun, opened, opening, script_of}
+use Rattle.composing.specs.Script.{Listed, listed, faulty, preceded, followed, following, wrong, as_script, begun, opened, opening, script_of}
 use Rattle.composing.specs.Passes.{Parts, Opens, surveyed, joined_to, events_in}
 
 -- ---- one line is parted from a text

@@ -1,5 +1,5 @@
 -- What the passes over a text say of what is left of it.
-use Rattle.std.specs.Prelude.{ℕ, ◌+◌, ◌≤◌, ◌<◌, ◌≡◌, Bool, true, cond, List, [], ◌∷◌, ltb, length, drop}
+use Rattle.std.specs.Prelude.{ℕ, ◌+◌, ◌≤◌, ◌<◌, ◌≡◌, true, cond, List, [], ◌∷◌, ltb, length, drop}
 use Rattle.words.specs.Ranges.{within}
 use Rattle.state.specs.declared.Event.{Event}
 use Rattle.writing.specs.Bytes.{events_bytes}

@@ -1,18 +1,17 @@
 -- Writing the text of a file's events, turn by turn: what stands in the buffer, and what is still to be read, are the text of all.
-use Rattle.std.specs.Prelude.{ℕ, zero, suc, ◌+◌, ◌-◌, ◌*◌, ◌≤◌, ◌<◌, ◌≡◌, refl, Bool, true, false, List, [], ◌∷◌, ◌++◌, eqb, length}
-use Rattle.std.proofs.Common.{sym, subst, ◌∙◌, append_assoc, append-nil, arith, length-append, ne_eqb, eq-eqb}
+use Rattle.std.specs.Prelude.{ℕ, zero, suc, ◌+◌, ◌-◌, ◌*◌, ◌≤◌, ◌<◌, ◌≡◌, refl, Bool, true, false, List, [], ◌++◌, eqb, length}
+use Rattle.std.proofs.Common.{sym, ◌∙◌, append_assoc, append-nil, arith, ne_eqb, eq-eqb}
 use Rattle.std.proofs.Math.Path.{ap}
 use Rattle.std.proofs.Math.Bool.{cond}
 use Rattle.text.specs.Printed.{printed_refusal}
 use Rattle.text.specs.Written.{Wrote}
 use Rattle.text.specs.WrittenLaws.{and_next, as_text, nothing}
-use Rattle.text.specs.LaidLaws.{laid-length}
 use Rattle.state.specs.declared.Event.{Event}
 use Rattle.format.specs.declared.Parse.{Parse}
 use Rattle.format.specs.declared.Parse.TheVariants.{Next, Refused, End}
 use Rattle.format.specs.Format.{byte_at, file_refusal, event_at}
 use Rattle.writing.specs.Bytes.{event_bytes}
-use Rattle.writing.specs.Reading.{Reading, stopped_by, behind, turned, read_from, read_out}
+use Rattle.writing.specs.Reading.{Reading, behind, turned, read_from, read_out}
 use Rattle.writing.proofs.StrideLaws.{strides, numbered}
 use Rattle.writing.proofs.EventsLaws.{event-least}
 use Rattle.showing.specs.Shown.{bench_line, event_line, event_lines, reading_text, shown}

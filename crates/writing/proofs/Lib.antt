@@ -1,7 +1,3 @@
-pub mod Callees
-pub mod OfEvent
-pub mod OfFiled
-pub mod Workers
 pub mod EventsLaws
 pub mod FrontLaws
 pub mod NumberLaws
