@@ -11,3 +11,4 @@ pub mod TurnsKept
 pub mod SoundLaws
 pub mod FactsLaws
 pub mod Demand3Laws
+pub mod Demand3Benches

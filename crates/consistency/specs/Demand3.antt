@@ -4,13 +4,8 @@ use Rattle.placing.specs.Sequential.{Sequential}
 use Rattle.state.specs.declared.Event.{Event}
 use Rattle.state.specs.State.{State}
 use Rattle.state.specs.Step.{Outcome}
-use Rattle.state.specs.Reached.{Reached}
 use Rattle.sc_abd.specs.Demand2.{ReachedBy}
 use Rattle.consistency.specs.Operations.{operations_of, order_of}
 
 abbrev pub Demand3 : (State → Event → Outcome) → Type 0
 Demand3 f = (s : State) → ReachedBy f s → Sequential (pos 0) (operations_of s) (order_of s)
-
--- The same of our own: what `sequential` of Demand3Laws says
-abbrev pub AlwaysSequential : Type 0
-AlwaysSequential = (s : State) → Reached s → Sequential (pos 0) (operations_of s) (order_of s)

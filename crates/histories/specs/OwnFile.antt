@@ -1,5 +1,5 @@
 -- The history file of a bench of ours: its rows as the rows of a history that is judged, and its one order. Document 02, "Wish 10".
-use Rattle.std.specs.Prelude.{ℕ, ◌+◌, ◌*◌, ◌%◌, List, ◌∷◌, ◌++◌, ℤ, length}
+use Rattle.std.specs.Prelude.{ℕ, ◌+◌, ◌*◌, ◌%◌, List, ◌∷◌, ◌++◌, ℤ}
 use Rattle.std.specs.Int.{w64}
 use Rattle.std.proofs.Common.{of_z}
 use Rattle.tables.specs.declared.Row.{Row}

@@ -1,9 +1,8 @@
 -- What a run over a table of 512 messages says of its file, from whether its bench has processes; and that the text which is written from it is the file's.
-use Rattle.std.specs.Prelude.{ℕ, zero, suc, ◌+◌, ◌-◌, ◌*◌, ◌≤◌, ◌<◌, ◌≡◌, Bool, true, false, not, List, [], ◌∷◌, ◌++◌, eqb, length, take, get_or, replicate}
+use Rattle.std.specs.Prelude.{ℕ, ◌+◌, ◌-◌, ◌*◌, ◌≤◌, ◌<◌, ◌≡◌, Bool, true, false, not, List, [], ◌∷◌, ◌++◌, eqb, length, take, get_or, replicate}
 use Rattle.std.proofs.Math.Path.{refl, ap}
 use Rattle.std.proofs.Common.{sym, subst, ◌∙◌, true≢false, append_assoc, append-nil, arith, add-one, length-append, take-suc, eqb-true, eq-eqb}
 use Rattle.std.proofs.Math.Bool.{cond}
-use Rattle.std.proofs.lemmas.List.{length-replicate}
 use Rattle.std.proofs.Math.Seq.{take-append_seam}
 use Rattle.std.proofs.lemmas.Bool.{not-false}
 use Rattle.words.specs.declared.Message.{Message}
@@ -12,9 +11,9 @@ use Rattle.tables.specs.Tables.{empty_message}
 use Rattle.state.specs.declared.Stepped.{Stepped}
 use Rattle.state.specs.State.{State, laid_messages}
 use Rattle.state.specs.Tabled.{bench_of}
-use Rattle.state.proofs.WellLaws.{Well, well}
+use Rattle.state.proofs.WellLaws.{well}
 use Rattle.state.proofs.Keeps.{reached-well-formed}
-use Rattle.state.proofs.Sized.{Sized, reached-sized}
+use Rattle.state.proofs.Sized.{reached-sized}
 use Rattle.state.specs.Reached.{Reached}
 use Rattle.bench.specs.Start.{no_bench, replied}
 use Rattle.format.specs.Format.{file_refusal}

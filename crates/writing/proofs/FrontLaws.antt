@@ -1,13 +1,11 @@
 -- What stands at the front of a list of bytes: nothing, an event whose bytes it begins with, or bytes that are no event; and that `format` finds it.
-use Rattle.std.specs.Prelude.{ℕ, zero, suc, ◌+◌, ◌/◌, ◌%◌, ◌≤◌, ◌<◌, ◌≡◌, refl, Bool, true, false, cond, List, [], ◌∷◌, ◌++◌, eqb, leb, ℤ, length, get_or}
+use Rattle.std.specs.Prelude.{ℕ, suc, ◌/◌, ◌%◌, ◌≤◌, ◌<◌, ◌≡◌, refl, Bool, true, false, List, [], ◌∷◌, ◌++◌, eqb, leb, ℤ, length, get_or}
 use Rattle.std.proofs.Common.{sym, ap, subst, ◌∙◌, append_assoc, arith, to_z, of_z, le-leb, eqb-true, leb-true, leb-false}
 use Rattle.std.specs.Int.{w64}
 use Rattle.std.proofs.lemmas.Bool.{lt-leb}
-use Rattle.words.specs.declared.Pid.{Pid}
 use Rattle.state.specs.declared.Event.{Event}
 use Rattle.state.specs.declared.Event.TheVariants.{Read, Write, Deliver, Crash, Lose}
-use Rattle.format.specs.declared.Parse.{Parse}
-use Rattle.format.specs.declared.Parse.TheVariants.{Next, Refused, End}
+use Rattle.format.specs.declared.Parse.TheVariants.{Next, Refused}
 use Rattle.format.specs.Format.{event_at}
 use Rattle.writing.specs.Bytes.{word_bytes, value_bytes, event_bytes}
 use Rattle.writing.specs.Held.{Bytes, Held}

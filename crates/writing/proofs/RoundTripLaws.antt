@@ -1,7 +1,7 @@
 -- The two round trips, proved; and what the second says of the writer's reply and of the lent output.
-use Rattle.std.specs.Prelude.{ℕ, suc, ◌+◌, ◌-◌, ◌≤◌, ◌<◌, ◌≡◌, Bool, true, false, not, ◌||◌, eqb, ltb, length, get_or}
+use Rattle.std.specs.Prelude.{ℕ, suc, ◌-◌, ◌≤◌, ◌≡◌, Bool, true, false, not, ◌||◌, eqb, ltb, length}
 use Rattle.std.proofs.Math.Path.{refl, sym, ap}
-use Rattle.std.proofs.Common.{subst, ◌∙◌, true≢false, arith, length-append}
+use Rattle.std.proofs.Common.{◌∙◌, arith, length-append}
 use Rattle.std.proofs.Math.Bool.{cond}
 use mathlib.Core.List.{List, [], ◌∷◌, ◌++◌, append_assoc}
 use borrow.Author.Tests.{eqb-true, eqb-false, eq-eqb, ltb-false, le-ltb}
@@ -9,12 +9,11 @@ use Rattle.words.specs.Ranges.{within}
 use Rattle.tables.specs.Tables.{laid_at}
 use Rattle.state.specs.declared.Event.{Event}
 use Rattle.format.specs.Format.{byte_at, word_at, file_refusal}
-use Rattle.writing.specs.declared.Filed.{Filed}
 use Rattle.writing.specs.Bytes.{word_bytes, events_bytes, behind_length, file_bytes}
 use Rattle.writing.specs.Held.{Bytes, HeldAll}
 use Rattle.writing.specs.Reading.{Reading, read_from, read_out}
 use Rattle.writing.specs.Writing.{write_refusal, filed, write_reply, write_left}
-use Rattle.writing.specs.RoundTrip.{Reads, ReadBack, WrittenBack}
+use Rattle.writing.specs.RoundTrip.{ReadBack, WrittenBack}
 use Rattle.writing.proofs.EventsLaws.{events-least}
 use Rattle.writing.proofs.NumberLaws.{joined, word_back, word-again}
 use Rattle.writing.proofs.SizeLaws.{word_size, file-size}

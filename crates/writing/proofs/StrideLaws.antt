@@ -1,6 +1,6 @@
 -- How far an event that stands at a place reaches: as many bytes as are written of it, and none past the end. What is no event has a number.
 use Rattle.std.specs.Prelude.{ℕ, ◌+◌, ◌≤◌, ◌≡◌, refl, Bool, true, false, cond, List, eqb, leb, length}
-use Rattle.std.proofs.Common.{sym, ap, subst, ◌∙◌, leb-true}
+use Rattle.std.proofs.Common.{sym, ap, subst, leb-true}
 use Rattle.std.proofs.lemmas.Bool.{eqb-false}
 use Rattle.state.specs.declared.Event.{Event}
 use Rattle.state.specs.declared.Event.TheVariants.{Read, Write, Deliver, Crash, Lose}

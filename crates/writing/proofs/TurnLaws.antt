@@ -1,8 +1,7 @@
 -- Reading on from a place, turn by turn, from the bytes that stand there; and the two halves of the round trip over them.
-use Rattle.std.specs.Prelude.{ℕ, zero, suc, ◌+◌, ◌≤◌, ◌<◌, ◌≡◌, refl, List, [], ◌∷◌, ◌++◌, length, get_or}
+use Rattle.std.specs.Prelude.{ℕ, zero, suc, ◌+◌, ◌<◌, ◌≡◌, refl, List, [], ◌∷◌, ◌++◌, length, get_or}
 use Rattle.std.proofs.Common.{sym, subst, ◌∙◌, append_assoc, arith, length-append, get_or-append-add}
 use Rattle.std.proofs.Math.Path.{ap}
-use Rattle.std.proofs.lemmas.Bool.{eqb-false}
 use Rattle.state.specs.declared.Event.{Event}
 use Rattle.format.specs.declared.Parse.{Parse}
 use Rattle.format.specs.declared.Parse.TheVariants.{Next, Refused, End}

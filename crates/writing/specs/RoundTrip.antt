@@ -1,12 +1,11 @@
 -- The two round trips: document 02, "Write schedules too". They hold of all files, and say nothing of a run.
 use Rattle.std.specs.Prelude.{ℕ, ◌≡◌, List, length}
-use Rattle.tables.specs.Tables.{laid_at}
 use Rattle.state.specs.declared.Event.{Event}
 use Rattle.format.specs.Format.{byte_at, file_refusal}
 use Rattle.writing.specs.Bytes.{file_bytes}
 use Rattle.writing.specs.Held.{Bytes, HeldAll}
 use Rattle.writing.specs.Reading.{read_out}
-use Rattle.writing.specs.Writing.{write_refusal, write_reply, write_left}
+use Rattle.writing.specs.Writing.{write_refusal}
 
 -- a file from which N, M and these events are read, to the end
 pub record Reads (bytes : List ℕ) (n m : ℕ) (events : List Event) : Type 0 where

@@ -1,6 +1,6 @@
 -- The event at a place, from the bytes that stand from there on: `format` finds it as it would at the front of them, further on by the place.
-use Rattle.std.specs.Prelude.{ℕ, ◌+◌, ◌*◌, ◌≤◌, ◌<◌, ◌≡◌, refl, Bool, true, false, cond, List, [], ◌∷◌, ◌++◌, eqb, leb, ℤ, length, get_or}
-use Rattle.std.proofs.Common.{sym, ◌∙◌, arith, length-append, get_or-append-add, to_z, leb-true, leb-false}
+use Rattle.std.specs.Prelude.{ℕ, ◌+◌, ◌*◌, ◌≤◌, ◌≡◌, refl, Bool, true, false, cond, List, ◌++◌, eqb, leb, ℤ, length}
+use Rattle.std.proofs.Common.{◌∙◌, arith, length-append, get_or-append-add, to_z, leb-true, leb-false}
 use Rattle.std.proofs.Math.Path.{ap}
 use Rattle.std.specs.Int.{w64}
 use Rattle.state.specs.declared.Event.{Event}

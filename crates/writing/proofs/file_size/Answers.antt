@@ -1,5 +1,5 @@
-use Rattle.std.proofs.Common.{◌≡◌, ap, ◌∙◌, ◌+◌, ◌<◌, ◌*◌, ◌^◌, length, length-append, take, get_or, arith, List}
-use Rattle.std.proofs.lemmas.List.{length-take-le, take_all}
+use Rattle.std.proofs.Common.{ap, ◌∙◌, length, length-append, take, get_or, arith}
+use Rattle.std.proofs.lemmas.List.{length-take-le}
 use Rattle.state.specs.declared.Event.{Event}
 use Rattle.writing.specs.Bytes.{no_event, event_bytes, events_bytes}
 use Rattle.writing.proofs.EventsLaws.{one-event, bytes_most, event-most}

@@ -15,7 +15,7 @@ loop-i-preserved c =
     let i = c.loop-i.i in
     let event = c.read_event-event.result in
     let text : events_bytes (take i events) ++ event_bytes event ≡ events_bytes (take (i + 1) events) =
-        ap (λ (e : Event). events_bytes (take i events) ++ event_bytes e) c.read_event-event.ensures ∙ one-event events i no_event (omega arith) in
+    ap (λ (e : Event). events_bytes (take i events) ++ event_bytes e) c.read_event-event.ensures ∙ one-event events i no_event (omega arith) in
     record {
       within = omega arith;
       all = c.loop-i.invariant.all;

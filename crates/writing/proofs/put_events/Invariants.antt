@@ -1,5 +1,5 @@
 -- What a turn begins with: the first i events are written.
-use Rattle.std.proofs.Common.{◌≡◌, ◌+◌, ◌-◌, ◌≤◌, length, take}
+use Rattle.std.proofs.Common.{◌≡◌, ◌-◌, ◌≤◌, length, take}
 use Rattle.text.specs.Written.{Wrote}
 use Rattle.writing.specs.Bytes.{events_bytes}
 use Rattle.writing.proofs.put_events.Given as goal

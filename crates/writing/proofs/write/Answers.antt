@@ -1,6 +1,5 @@
-use Rattle.std.proofs.Common.{◌≡◌, ◌∙◌, ap, sym, Bool, true, false, eqb, length, arith}
+use Rattle.std.proofs.Common.{◌∙◌, ap, sym, eqb, length, arith}
 use Rattle.writing.specs.declared.Filed.{Filed}
-use Rattle.writing.specs.Writing.{write_refusal}
 use Rattle.writing.proofs.WritingLaws.{head-size, passed, replies, leaves, leaves_all}
 use Rattle.writing.proofs.write.Goals as goal
 

@@ -1,0 +1,17 @@
+use Rattle.buffer.proofs.PrintingLaws.{long-reply, long-left, short-reply, short-left}
+use Rattle.inflight.specs.Flight.{in_flight}
+use Rattle.inflight.proofs.flight.Goals as goal
+
+pub returns-then-out-lt-LONGEST_TEXT-clause-value : goal.returns-then-out-lt-LONGEST_TEXT-clause-value
+returns-then-out-lt-LONGEST_TEXT-clause-value c =
+    let short = c.if-out-lt-LONGEST_TEXT.true in
+    let text = in_flight c.args.bytes.now in
+    let out = c.args.out.now in
+    (short-reply 73728 text out short, short-left 73728 text out short)
+
+pub returns-clause-value : goal.returns-clause-value
+returns-clause-value c =
+    let long = c.if-out-lt-LONGEST_TEXT.false in
+    let text = in_flight c.args.bytes.now in
+    let out = c.args.out.now in
+    (long-reply 73728 text out long c.flight_into-size.ensures, long-left 73728 text out long c.flight_into-size.ensures)
