@@ -10,7 +10,9 @@ const LONGEST_TEXT: usize = 393216;
 
 // It takes no arguments; whoever gives one, as `-h`, is told what it takes.
 fn help(rt: &impl Eprint) -> io::Result<()> {
-    eprintln!(rt; "usage: compose < TEXT > FILE\nMakes the schedule file of a text: bench N M, then read P X, write P X V, deliver K, crash P, lose K, a line each.")
+    eprintln!(rt;
+        "usage: compose < TEXT > FILE\nMakes the schedule file of a text: bench N M, then read P X, write P X V, deliver K, crash P, lose K, a line each."
+    )
 }
 
 fn complain(rt: &HostRuntime, line: usize, fault: Fault) -> io::Result<()> {

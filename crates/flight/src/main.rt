@@ -5,7 +5,9 @@ use std::io;
 
 // It takes no arguments; whoever gives one, as `-h`, is told what it takes.
 fn help(rt: &impl Eprint) -> io::Result<()> {
-    eprintln!(rt; "usage: flight < FILE\nPrints the messages in flight after the schedule in FILE, one a line.")
+    eprintln!(rt;
+        "usage: flight < FILE\nPrints the messages in flight after the schedule in FILE, one a line."
+    )
 }
 
 fn main(rt: HostRuntime) -> io::Result<()> {

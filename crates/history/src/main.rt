@@ -5,7 +5,9 @@ use std::io;
 
 // It takes no arguments; whoever gives one, as `-h`, is told what it takes.
 fn help(rt: &impl Eprint) -> io::Result<()> {
-    eprintln!(rt; "usage: history < FILE\nWrites the history file of the schedule in FILE. The form is in docs/JUDGING.md.")
+    eprintln!(rt;
+        "usage: history < FILE\nWrites the history file of the schedule in FILE. The form is in docs/JUDGING.md."
+    )
 }
 
 fn main(rt: HostRuntime) -> io::Result<()> {

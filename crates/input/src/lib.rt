@@ -34,3 +34,45 @@ pub fn argument_count(rt: &impl Env) -> usize {
     }
     usize::MAX
 }
+
+#[cfg(test)]
+mod tests {
+    use super::*;
+    use std::test::Fail;
+
+    #[derive(Drop)]
+    struct Broken;
+
+    impl Read for Broken {
+        fn read(&mut self, _buffer: &mut [u8]) -> io::Result<usize> {
+            Err(io::Error::from(io::ErrorKind::BrokenPipe))
+        }
+    }
+
+    #[test]
+    fn reads_on_after_a_short_read(rt: HostRuntime) -> Result<(), Fail> {
+        let mut buffer = [0u8; 5];
+        let mut input = (&b"ab"[..]).chain(&b"cdef"[..]);
+        let read = read_full(&mut input, &mut buffer)?;
+        assert_eq!(rt; read, 5);
+        assert_eq!(rt; buffer, *b"abcde");
+        Ok(())
+    }
+
+    #[test]
+    fn stops_at_the_end(rt: HostRuntime) -> Result<(), Fail> {
+        let mut buffer = [7u8; 4];
+        let read = read_full(&mut &b"ab"[..], &mut buffer)?;
+        assert_eq!(rt; read, 2);
+        assert_eq!(rt; buffer, [97, 98, 7, 7]);
+        Ok(())
+    }
+
+    #[test]
+    fn fails_where_a_later_read_fails(rt: HostRuntime) -> Result<(), Fail> {
+        let mut buffer = [0u8; 4];
+        let result = read_full(&mut (&b"ab"[..]).chain(Broken), &mut buffer);
+        assert!(rt; result.is_err());
+        Ok(())
+    }
+}

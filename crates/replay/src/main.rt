@@ -5,7 +5,9 @@ use std::io;
 
 // It takes no arguments; whoever gives one, as `-h`, is told what it takes.
 fn help(rt: &impl Eprint) -> io::Result<()> {
-    eprintln!(rt; "usage: replay < FILE\nReplays the schedule in FILE and prints it. The numbers of refusal are in README.md.")
+    eprintln!(rt;
+        "usage: replay < FILE\nReplays the schedule in FILE and prints it. The numbers of refusal are in README.md."
+    )
 }
 
 fn main(rt: HostRuntime) -> io::Result<()> {

@@ -5,7 +5,9 @@ use std::io;
 
 // It takes no arguments; whoever gives one, as `-h`, is told what it takes.
 fn help(rt: &impl Eprint) -> io::Result<()> {
-    eprintln!(rt; "usage: show < FILE\nPrints the schedule in FILE as text, which compose makes the same file of.")
+    eprintln!(rt;
+        "usage: show < FILE\nPrints the schedule in FILE as text, which compose makes the same file of."
+    )
 }
 
 fn main(rt: HostRuntime) -> io::Result<()> {

@@ -11,7 +11,9 @@ const LONGEST_LINE: usize = 14;
 
 // It takes no arguments; whoever gives one, as `-h`, is told what it takes.
 fn help(rt: &impl Eprint) -> io::Result<()> {
-    eprintln!(rt; "usage: verdict < FILE\nTells whether the order in the history FILE explains it. The form is in docs/JUDGING.md.")
+    eprintln!(rt;
+        "usage: verdict < FILE\nTells whether the order in the history FILE explains it. The form is in docs/JUDGING.md."
+    )
 }
 
 fn say(rt: &(impl Print + Eprint), line: &[u8]) -> io::Result<()> {
