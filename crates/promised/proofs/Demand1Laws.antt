@@ -55,6 +55,15 @@ module _ (b : Bench) (e : Event) (messages : List Message) (rows : List Row) whe
       go true t = event-first now (well now (tabled-well b messages rows t)) (tabled-sized b messages rows t) e
       go false t = refl
 
+  step_kept : (ours.step b e messages rows).refusal ≡ 0 → Formed (ours.step b e messages rows)
+  unfolding step_reply step_messages step_rows
+  step_kept = go (tabled b messages rows) refl
+    where
+      go : (t : Bool) → tabled b messages rows ≡ t → cond t (step now e).refusal 18 ≡ 0
+          → tabled (cond t (bench_of next) b) (cond t (laid_messages next) messages) (cond t (laid_rows next) rows) ≡ true
+      go true t z = laid-tabled next (step-well now e (tabled-well b messages rows t)) (step-sized now e (tabled-sized b messages rows t))
+      go false t z = absurd (eqb-false 18 0 refl z)
+
   step-refused : IsRefused (ours.step b e messages rows).refusal → Leaves (ours.step b e messages rows) b messages rows
   unfolding step_reply step_messages step_rows
   step-refused = go (tabled b messages rows) refl
@@ -68,15 +77,6 @@ module _ (b : Bench) (e : Event) (messages : List Message) (rows : List Row) whe
             ap laid_rows same ∙ sym (rows_are b messages rows t),
           )
       go false t n = (refl, refl, refl)
-
-  step_kept : (ours.step b e messages rows).refusal ≡ 0 → Formed (ours.step b e messages rows)
-  unfolding step_reply step_messages step_rows
-  step_kept = go (tabled b messages rows) refl
-    where
-      go : (t : Bool) → tabled b messages rows ≡ t → cond t (step now e).refusal 18 ≡ 0
-          → tabled (cond t (bench_of next) b) (cond t (laid_messages next) messages) (cond t (laid_rows next) rows) ≡ true
-      go true t z = laid-tabled next (step-well now e (tabled-well b messages rows t)) (step-sized now e (tabled-sized b messages rows t))
-      go false t z = absurd (eqb-false 18 0 refl z)
 
 -- ---- status and order
 

@@ -3,6 +3,3 @@ pub mod Checks
 pub mod Demand1
 pub mod Lent
 pub mod Told
--- Laws
-pub mod LentLaws
-pub mod ScheduleLaws

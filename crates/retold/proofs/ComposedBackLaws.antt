@@ -1,28 +1,25 @@
 -- Composing what `show` prints gives the file.
-use Rattle.std.specs.Prelude.{ℕ, suc, ◌+◌, ◌≤◌, ◌<◌, ◌≡◌, refl, Bool, true, false, cond, not, List, [], ◌∷◌, ◌++◌, eqb, ltb, leb, length}
-use Rattle.std.proofs.Common.{sym, ap, subst, ◌∙◌, append-nil, arith, length-append, le-ltb, eq-eqb, leb-true}
+use Rattle.std.specs.Prelude.{ℕ, suc, ◌+◌, ◌≤◌, ◌<◌, ◌≡◌, refl, Bool, true, cond, not, List, [], ◌∷◌, ◌++◌, eqb, ltb, leb, length}
+use Rattle.std.proofs.Common.{sym, ap, ◌∙◌, append-nil, arith, length-append, le-ltb, leb-true}
 use Rattle.words.specs.Ranges.{within}
 use Rattle.words.specs.RangeLaws.{and_right}
-use Rattle.tables.specs.Tables.{laid_at}
 use Rattle.text.specs.Printed.{decimal, printed_refusal}
 use Rattle.state.specs.declared.Event.{Event}
 use Rattle.format.specs.Format.{byte_at, file_refusal}
-use Rattle.writing.specs.Bytes.{event_bytes, events_bytes, file_bytes}
+use Rattle.writing.specs.Bytes.{event_bytes, events_bytes}
 use Rattle.writing.specs.Held.{Bytes, HeldAll}
 use Rattle.writing.specs.Reading.{read_out}
 use Rattle.writing.proofs.SizeLaws.{file-size}
-use Rattle.writing.proofs.RoundTripLaws.{Opened, opened as opened-file, written_back, laid-back}
-use Rattle.showing.specs.Shown.{word_bench, bench_line, event_line, event_lines, reading_text, shown}
+use Rattle.writing.proofs.RoundTripLaws.{opened as opened-file, written_back, laid-back}
+use Rattle.showing.specs.Shown.{word_bench, bench_line, event_line, event_lines, shown}
 use Rattle.showing.proofs.ShowLaws.{shown_read}
 use Rattle.script.specs.declared.Fault.TheVariants.{Processes, Registers, TooLong}
 use Rattle.script.specs.declared.Line.{Line}
-use Rattle.script.specs.declared.Line.TheVariants.{Bench, Does}
 use Rattle.script.specs.Lines.{lines}
-use Rattle.script.specs.Meaning.{line_of}
 use Rattle.composing.specs.declared.Composed.TheVariants.{File, Short}
-use Rattle.composing.specs.Script.{Listed, listed, faulty, preceded, followed, following, Script, script, wrong, as_script, begun, opened, opening, script_of}
+use Rattle.composing.specs.Script.{listed, faulty, preceded, followed, following, Script, script, wrong, as_script, opened, opening, script_of}
 use Rattle.composing.specs.Composed.{replied, left, compose_reply, compose_left}
-use Rattle.retold.specs.Plain.{fields, plain_words, ComposedBack}
+use Rattle.retold.specs.Plain.{fields, ComposedBack}
 use Rattle.retold.proofs.WordLaws.{line-back}
 use Rattle.retold.proofs.FieldLaws.{head_word, field_words, event-line, bench-line, head-word, field-words, event-back, bench-words, bench-word, bench-back}
 use Rattle.retold.specs.HeldLaws.{held_out}

@@ -1,6 +1,6 @@
 -- Fields that are written and read again: numbers, values, and the words of a line.
-use Rattle.std.specs.Prelude.{ℕ, suc, ◌+◌, ◌-◌, ◌≤◌, ◌<◌, ◌≡◌, refl, Bool, true, false, cond, not, ◌&&◌, List, [], ◌∷◌, ◌++◌, eqb, leb, ℤ, pos, negsuc}
-use Rattle.std.proofs.Common.{sym, ap, subst, ◌∙◌, true≢false, append_assoc, arith, SFits, le-leb, ne_eqb}
+use Rattle.std.specs.Prelude.{ℕ, suc, ◌-◌, ◌≤◌, ◌<◌, ◌≡◌, refl, Bool, true, cond, not, ◌&&◌, List, [], ◌∷◌, ◌++◌, eqb, leb, ℤ, pos, negsuc}
+use Rattle.std.proofs.Common.{sym, ap, ◌∙◌, true≢false, append_assoc, arith, SFits, le-leb, ne_eqb}
 use Rattle.std.specs.Int.{w64}
 use Rattle.words.specs.RangeLaws.{and_left}
 use Rattle.text.specs.Printed.{decimal, signed, field}
@@ -15,10 +15,9 @@ use Rattle.script.specs.declared.Amount.{Amount}
 use Rattle.script.specs.declared.Amount.TheVariants as A
 use Rattle.script.specs.declared.Line.{Line}
 use Rattle.script.specs.declared.Line.TheVariants.{Bench, Does}
-use Rattle.script.specs.Lines.{words, uncommented}
-use Rattle.script.specs.Numbers.{is_digit, digits_only, is_empty, is_number, value, figure_of, positive_of, negative_of, amount_of}
+use Rattle.script.specs.Numbers.{is_digit, digits_only, is_number, value, figure_of, positive_of, negative_of, amount_of}
 use Rattle.script.specs.NumberLaws.{digit-least, number_digits}
-use Rattle.script.specs.Meaning.{head_of, figure_then, number_then, amount_then, value_then, two_then, word_then, end_then, fields_of, meaning, line_of}
+use Rattle.script.specs.Meaning.{head_of, figure_then, number_then, amount_then, value_then, two_then, end_then, fields_of, meaning, line_of}
 use Rattle.retold.specs.Plain.{fields, plain_words}
 use Rattle.retold.specs.DecimalLaws.{decimal-number, decimal-value}
 use Rattle.retold.proofs.WordLaws.{IsWord, AreWords, words_back, decimal-word, signed_word}

@@ -1,16 +1,16 @@
 -- Words with one blank between them, and the end of the line: read, they are the line and its words again.
-use Rattle.std.specs.Prelude.{ℕ, suc, ◌+◌, ◌≤◌, ◌<◌, ◌≡◌, refl, Bool, true, false, cond, not, ◌&&◌, ◌||◌, List, [], ◌∷◌, ◌++◌, eqb, leb, ℤ, pos, negsuc, length}
-use Rattle.std.proofs.Common.{sym, ap, subst, ◌∙◌, true≢false, append_assoc, append-nil, arith, eq-eqb, ne_eqb, SFits}
+use Rattle.std.specs.Prelude.{ℕ, suc, ◌≤◌, ◌<◌, ◌≡◌, refl, Bool, true, false, cond, not, ◌&&◌, ◌||◌, List, [], ◌∷◌, ◌++◌, eqb, ℤ, pos, negsuc, length}
+use Rattle.std.proofs.Common.{sym, ap, ◌∙◌, true≢false, append_assoc, append-nil, arith, eq-eqb, ne_eqb, SFits}
 use Rattle.std.proofs.lemmas.Bool.{not-true}
 use Rattle.std.specs.Int.{w64}
 use Rattle.words.specs.RangeLaws.{and_left, and_right}
-use Rattle.text.specs.Printed.{decimal, signed, field}
+use Rattle.text.specs.Printed.{decimal, signed}
 use Rattle.text.specs.DigitLaws.{tens}
 use Rattle.showing.specs.Shown.{ended}
 use Rattle.script.specs.Lines.{before, behind, newline, lines, hash, uncommented, is_blank, words, word, past_word, past_blanks}
 use Rattle.script.proofs.LineLaws.{lines-first, words_from, words-front}
-use Rattle.script.specs.Numbers.{is_digit, digits_only, is_empty, is_number}
-use Rattle.script.specs.NumberLaws.{digit-least, digit-most, number_digits}
+use Rattle.script.specs.Numbers.{is_digit, digits_only, is_number}
+use Rattle.script.specs.NumberLaws.{digit-least, number_digits}
 use Rattle.retold.specs.Plain.{fields, plain_words}
 use Rattle.retold.specs.DecimalLaws.{decimal-number}
 

@@ -18,7 +18,7 @@ use Rattle.script.specs.declared.Taken.TheVariants as T
 use Rattle.script.specs.declared.Pairing.TheVariants as P
 use Rattle.script.specs.declared.Valued.TheVariants as Y
 use Rattle.script.specs.Lines.{words}
-use Rattle.script.specs.Meaning.{same, head_of, figure_then, number_then, amount_then, value_then, two_then, end_then}
+use Rattle.script.specs.Meaning.{same, head_of, figure_then, number_then, amount_then, value_then, end_then}
 use Rattle.script.specs.Numbers.{is_number, value, figure_of, amount_of}
 use Rattle.script.specs.Places.{Spans, Took, TookTwo, TookValue}
 use Rattle.script.specs.ScanLaws.{one_on, at-end}

@@ -1,12 +1,10 @@
 -- A word as a number or a value, from the tests that the code makes: whether it is a number, and how its capped value compares.
-use Rattle.std.specs.Prelude.{ℕ, ◌-◌, ◌≤◌, ◌<◌, ◌≡◌, refl, Bool, true, false, not, ◌&&◌, List, [], ◌∷◌, eqb, leb, ℤ, pos, negsuc, length, get_or, drop}
+use Rattle.std.specs.Prelude.{ℕ, ◌-◌, ◌≤◌, ◌<◌, ◌≡◌, refl, Bool, true, false, not, ◌&&◌, List, [], ◌∷◌, eqb, leb, pos, negsuc, length, get_or, drop}
 use Rattle.std.proofs.Math.Path.{sym, ap}
 use Rattle.std.proofs.Common.{subst, ◌∙◌, arith, le-leb, eq-eqb, ne_eqb}
 use Rattle.std.proofs.Math.Bool.{cond}
 use Rattle.std.proofs.lemmas.Bool.{lt-leb}
-use Rattle.script.specs.declared.Figure.{Figure}
 use Rattle.script.specs.declared.Figure.TheVariants.{Is, NotANumber, TooLarge}
-use Rattle.script.specs.declared.Amount.{Amount}
 use Rattle.script.specs.declared.Amount.TheVariants as A
 use Rattle.script.specs.Numbers.{is_number, value, capped, figure_of, positive_of, negative_of, amount_of}
 use Rattle.script.specs.NumberLaws.{cap-within, cap-beyond}

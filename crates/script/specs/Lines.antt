@@ -1,6 +1,6 @@
 -- A text as lines, and a line as words. A text is a list of bytes; a line ends before a newline, or at the end; `#` starts a comment; words stand between blanks, which
 -- are spaces and tabs.
-use Rattle.std.specs.Prelude.{ℕ, Bool, true, false, cond, not, ◌||◌, List, [], ◌∷◌, eqb}
+use Rattle.std.specs.Prelude.{ℕ, Bool, false, cond, not, ◌||◌, List, [], ◌∷◌, eqb}
 
 -- what stands before the first such byte, all of it where there is none; and what stands behind it
 abbrev pub before : ℕ → List ℕ → List ℕ

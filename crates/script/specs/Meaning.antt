@@ -3,7 +3,6 @@
 use Rattle.std.specs.Prelude.{ℕ, Bool, true, false, cond, ◌&&◌, List, [], ◌∷◌, eqb, ℤ}
 use Rattle.state.specs.declared.Event.TheVariants.{Read, Write, Deliver, Crash, Lose}
 use Rattle.showing.specs.Shown.{word_bench, word_read, word_write, word_deliver, word_crash, word_lose}
-use Rattle.script.specs.declared.Fault.{Fault}
 use Rattle.script.specs.declared.Fault.TheVariants.{Unknown, Missing, TooMany, NotANumber, TooLarge}
 use Rattle.script.specs.declared.Figure.{Figure}
 use Rattle.script.specs.declared.Figure.TheVariants as F

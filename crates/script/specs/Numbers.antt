@@ -1,5 +1,5 @@
 -- A word as a number: digits, with no zero in front of others. A value may have a minus sign in front, and is then not 0. So each number is written in one way only.
-use Rattle.std.specs.Prelude.{ℕ, ◌+◌, ◌-◌, ◌*◌, Bool, true, false, cond, not, ◌&&◌, ◌||◌, List, [], ◌∷◌, eqb, leb, ℤ, pos, negsuc}
+use Rattle.std.specs.Prelude.{ℕ, ◌+◌, ◌-◌, ◌*◌, Bool, true, false, cond, not, ◌&&◌, ◌||◌, List, [], ◌∷◌, eqb, leb, pos, negsuc}
 use Rattle.script.specs.declared.Figure.{Figure}
 use Rattle.script.specs.declared.Figure.TheVariants.{Is, NotANumber, TooLarge}
 use Rattle.script.specs.declared.Amount.{Amount}

@@ -1,5 +1,5 @@
 -- What the functions say that take words off a line from a place on: the rest of the line is what stands behind the place.
-use Rattle.std.specs.Prelude.{ℕ, ◌+◌, ◌-◌, ◌≤◌, ◌≡◌, cond, List, [], ◌∷◌, eqb, length, take, drop, ℤ}
+use Rattle.std.specs.Prelude.{ℕ, ◌-◌, ◌≤◌, ◌≡◌, cond, List, [], ◌∷◌, eqb, length, take, drop, ℤ}
 use Rattle.script.specs.declared.Span.{Span}
 use Rattle.script.specs.declared.Line.{Line}
 use Rattle.script.specs.declared.Line.TheVariants.{Wrong}

@@ -1,5 +1,5 @@
 -- Scanning a text place by place: what is found from a place on, from the byte there and from what is found one place further on.
-use Rattle.std.specs.Prelude.{ℕ, zero, suc, ◌+◌, ◌≤◌, ◌<◌, ◌≡◌, refl, Bool, true, false, cond, ◌&&◌, List, [], ◌∷◌, eqb, length, get_or, drop}
+use Rattle.std.specs.Prelude.{ℕ, zero, suc, ◌+◌, ◌≤◌, ◌<◌, ◌≡◌, refl, Bool, true, false, cond, ◌&&◌, List, [], ◌∷◌, length, get_or, drop}
 use Rattle.std.proofs.Common.{sym, ap, ◌∙◌, arith, add-one, drop-cons, eq-eqb, ne_eqb}
 use Rattle.script.specs.Lines.{before, is_blank, word, past_blanks}
 use Rattle.script.specs.Numbers.{is_digit, digits_only, value}

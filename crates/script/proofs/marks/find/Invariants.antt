@@ -7,7 +7,7 @@ abbrev pub invariant-loop-i : goal.invariant-loop-i
 invariant-loop-i l =
     record {
       within : l.i ≤ length l.text;
-      same : l.i + length (before l.byte (drop l.i l.text)) ≡ l.from + length (before l.byte (drop l.from l.text))
+      same : l.i + length (before l.byte (drop l.i l.text)) ≡ l.from + length (before l.byte (drop l.from l.text));
     }
 
 abbrev pub decreases-loop-i : goal.decreases-loop-i

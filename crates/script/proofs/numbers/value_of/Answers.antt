@@ -16,6 +16,6 @@ loop-i-preserved c =
       small = cap-most c.grown-n.result m c.grown-n.ensures;
       digits = and_right (is_digit d) (digits_only (drop (i + 1) w)) (sym (digits_are w i c.loop-i-test.true) ∙ c.loop-i.invariant.digits);
       same =
-        ap (λ (n : ℕ). capped (value n (drop (i + 1) w))) c.grown-n.ensures ∙ cap-on m (drop (i + 1) w)
-        ∙ sym (ap capped (value-are w i c.loop-i-test.true c.loop-i.n)) ∙ c.loop-i.invariant.same;
+          ap (λ (n : ℕ). capped (value n (drop (i + 1) w))) c.grown-n.ensures ∙ cap-on m (drop (i + 1) w)
+          ∙ sym (ap capped (value-are w i c.loop-i-test.true c.loop-i.n)) ∙ c.loop-i.invariant.same;
     }

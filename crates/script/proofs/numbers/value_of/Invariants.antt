@@ -8,7 +8,7 @@ invariant-loop-i l =
     record {
       small : l.n ≤ 9223372036854775809;
       digits : digits_only (drop l.i l.word) ≡ true;
-      same : capped (value l.n (drop l.i l.word)) ≡ capped (value 0 (drop l.from l.word))
+      same : capped (value l.n (drop l.i l.word)) ≡ capped (value 0 (drop l.from l.word));
     }
 
 abbrev pub decreases-loop-i : goal.decreases-loop-i

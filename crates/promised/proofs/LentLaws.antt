@@ -2,26 +2,22 @@
 -- it lays are a sequentially consistent order of the history in the lent table. So `step` and `status` are never refused by 18 either.
 use Rattle.std.specs.Prelude.{ℕ, ◌≡◌, Bool, true, false, not, List, length}
 use Rattle.std.proofs.Math.Path.{refl}
-use Rattle.std.proofs.Common.{sym, subst, ◌∙◌}
+use Rattle.std.proofs.Common.{sym, ◌∙◌}
 use Rattle.std.proofs.lemmas.Bool.{eqb-false}
 use Rattle.words.specs.declared.Message.{Message}
 use Rattle.words.specs.Ranges.{within}
 use Rattle.tables.specs.declared.Row.{Row}
 use Rattle.state.specs.declared.Bench.{Bench}
 use Rattle.state.specs.declared.Event.{Event}
-use Rattle.state.specs.State.{State, view, fresh}
+use Rattle.state.specs.State.{view, fresh}
 use Rattle.state.specs.Step.{check, step}
 use Rattle.state.specs.Tabled.{tabled, bench_of}
-use Rattle.state.proofs.Keeps.{reached-well-formed}
-use Rattle.state.proofs.Sized.{reached-sized}
-use Rattle.state.specs.Reached.{Reached, start, next}
-use Rattle.advance.proofs.TabledLaws.{Holds, holds-tabled, holds-view}
-use Rattle.order.specs.Operations.{order_of}
+use Rattle.state.specs.Reached.{start, next}
+use Rattle.advance.proofs.TabledLaws.{Holds}
 use Rattle.bench.specs.Start.{started_by, start_reply}
 use Rattle.bench.specs.Reply.{step_reply, step_messages, step_rows}
-use Rattle.bench.specs.Listing.{list_reply, list_left}
-use Rattle.consistency.proofs.Demand3Laws.{sequential, real_time}
-use Rattle.promised.specs.Lent.{Lent, started, stepped, history, Explained}
+use Rattle.promised.specs.Lent.{Lent, started, stepped, Explained}
+use Rattle.promised.proofs.ExplainedLaws.{Tells, tells, explained}
 
 -- ---- what `start` and `step` leave holds a state that was reached
 
@@ -50,17 +46,6 @@ module _ (b : Bench) (event : Event) (messages : List Message) (rows : List Row)
   unfolding step_reply
   stepped-refusal = rw t refl
 
-pub record Tells (b : Bench) (messages : List Message) (rows : List Row) : Type 0 where
-  pub reached : Reached (view b messages rows)
-  pub formed : tabled b messages rows ≡ true
-
-pub tells : (s : State) (b : Bench) (messages : List Message) (rows : List Row) → Reached s → Holds s b messages rows → Tells b messages rows
-tells s b messages rows r h =
-    record {
-      reached = subst Reached (sym (holds-view s b messages rows h)) r;
-      formed = holds-tabled s b messages rows h (reached-well-formed s r) (reached-sized s r);
-    }
-
 pub lent : (b : Bench) (messages : List Message) (rows : List Row) → Lent b messages rows → Tells b messages rows
 lent _ _ _ (started n m z) =
     tells (fresh n m) _ _ _ (start n m (ranges n m z).0 (ranges n m z).1) (fresh-bench n m z, refl, refl)
@@ -71,17 +56,6 @@ lent _ _ _ (stepped b event messages rows l z) =
     (stepped-holds b event messages rows before.formed)
 
 -- ---- the promise
-
-pub explained : (b : Bench) (messages : List Message) (rows : List Row) (out : List ℕ) → Tells b messages rows → length out ≡ 1024 → Explained b messages rows out
-unfolding list_reply list_left
-explained b messages rows out told long =
-    record {
-      numbers = order_of (history b messages rows);
-      reply = rw (told.formed, long) refl;
-      laid = rw (told.formed, long) refl;
-      consistent = sequential (view b messages rows) told.reached;
-      in-time = real_time (view b messages rows) told.reached;
-    }
 
 pub order-explains : (b : Bench) (messages : List Message) (rows : List Row) (out : List ℕ) → Lent b messages rows → length out ≡ 1024 → Explained b messages rows out
 order-explains b messages rows out l = explained b messages rows out (lent b messages rows l)

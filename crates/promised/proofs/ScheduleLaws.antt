@@ -9,7 +9,8 @@ use Rattle.schedule.specs.Run.{ran}
 use Rattle.schedule.proofs.RunLaws.{run-reached}
 use Rattle.schedule.specs.Turns.{RanOn}
 use Rattle.promised.specs.Lent.{Lent, Explained}
-use Rattle.promised.specs.LentLaws.{Tells, tells, lent, explained}
+use Rattle.promised.proofs.ExplainedLaws.{Tells, tells, explained}
+use Rattle.promised.proofs.LentLaws.{lent}
 
 module _ (b : Bench) (bytes : List ℕ) (at : ℕ) (messages : List Message) (rows : List Row) (l : Lent b messages rows) (r : Stepped)
     (messages' : List Message) (rows' : List Row) (run : RanOn b bytes at messages rows r messages' rows') where
