@@ -3,24 +3,23 @@ use Rattle.std.specs.Prelude.{◌≡◌, List, ℕ}
 use Rattle.std.proofs.Common.{eq-eqb}
 use Rattle.state.specs.State.{State}
 use Rattle.state.specs.Reached.{Reached}
-use Rattle.order.specs.Operations.{order_of}
 use Rattle.format.specs.Format.{file_refusal}
 use Rattle.format.proofs.FileLaws.{file-opens}
 use Rattle.schedule.specs.Opening.{ran_file}
 use Rattle.schedule.proofs.FileLaws.{file-reached}
 use Rattle.verdicts.specs.Verdict.{verdict_of}
-use Rattle.verdicts.proofs.WrittenLaws.{written-accepts}
-use Rattle.histories.specs.OwnFile.{own_rows, file_of, own_file}
+use Rattle.histories.specs.OwnFile.{file_of, own_file}
 use Rattle.recording.specs.Recording.{recorded}
-use Rattle.accepted.specs.OwnLaws.{own-explained, own-history}
+use Rattle.accepted.specs.OwnLaws.{own-judged}
 
 pub own-accepted : (s : State) → Reached s → verdict_of (own_file s.rows) ≡ 0
 unfolding own_file file_of
-own-accepted s r = (written-accepts (own_rows s.rows) (order_of s.rows) (own-history s r)).1 (own-explained s r)
+own-accepted s r = own-judged s r
 
 module _ (bytes : List ℕ) (e : file_refusal bytes ≡ 0) where
   pub schedule-accepted : verdict_of (own_file (ran_file bytes).state.rows) ≡ 0
-  schedule-accepted = own-accepted (ran_file bytes).state (file-reached bytes (file-opens bytes e))
+  unfolding own_file file_of
+  schedule-accepted = own-judged (ran_file bytes).state (file-reached bytes (file-opens bytes e))
 
   pub recorded-accepted : verdict_of (recorded bytes) ≡ 0
   unfolding recorded

@@ -21,10 +21,12 @@ use Rattle.order.specs.Operations.{operation_of, operations_of, order_of}
 use Rattle.consistency.proofs.Demand3Laws.{sequential}
 use Rattle.consistency.proofs.FactsLaws.{facts}
 use Rattle.verdicts.specs.Explains.{Row as JudgedRow, Completed, row_at, Explains}
-use Rattle.verdicts.specs.File.{Formed, History}
+use Rattle.verdicts.specs.File.{Formed, History, history_file}
 use Rattle.verdicts.specs.Operations.{as_row}
+use Rattle.verdicts.specs.Verdict.{verdict_of}
 use Rattle.verdicts.proofs.RowLaws.{row_inside}
 use Rattle.verdicts.proofs.SequentialLaws.{sequential-explains, behind}
+use Rattle.verdicts.proofs.WrittenLaws.{written-accepts}
 use Rattle.histories.specs.OwnFile.{bits_of, own_rows}
 
 -- ---- the one order is no longer than the history
@@ -132,3 +134,7 @@ module _ (s : State) (r : Reached s) where
         formed = own-formed;
         ended = own-ended;
       }
+
+  -- so its file is accepted
+  pub own-judged : verdict_of (history_file (own_rows s.rows) (order_of s.rows)) ≡ 0
+  own-judged = (written-accepts (own_rows s.rows) (order_of s.rows) own-history).1 own-explained
