@@ -37,8 +37,8 @@ module _ (b : Bench) (event : Event) (messages : List Message) (rows : List Row)
   advanced-replied e r messages' rows' a =
       record {
         reply = same r _ _ (pick _ true next.refusal 18 _ e a.refusal) (pick _ true (bench_of next.state) b _ e a.bench);
-        messages-left = pick _ true (laid_messages next.state) messages _ e a.messages-laid;
-        rows_left = pick _ true (laid_rows next.state) rows _ e a.rows-laid;
+        messages-left = pick _ true (laid_messages next.state) _ _ e a.messages-laid;
+        rows_left = pick _ true (laid_rows next.state) _ _ e a.rows-laid;
       }
 
   pub refused-replied : tabled b messages rows ≡ false → (r : Stepped) → r ≡ unformed b → StepReplied b event messages rows r messages rows

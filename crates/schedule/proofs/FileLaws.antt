@@ -89,8 +89,8 @@ module _ (messages : List Message) (rows : List Row) (bytes : List ℕ) (s : Ste
                 (same r (ran_file bytes).refusal (bench_of (ran_file bytes).state) (a.refusal ∙ ap (λ (x : Ran). x.refusal) from-fresh)
                 (a.bench ∙ ap (λ (x : Ran). bench_of x.state) from-fresh));
             messages-left =
-                pick _ true (laid_messages (ran_file bytes).state) messages messages' told (a.messages-laid ∙ ap (λ (x : Ran). laid_messages x.state) from-fresh);
-            rows_left = pick _ true (laid_rows (ran_file bytes).state) rows rows' told (a.rows-laid ∙ ap (λ (x : Ran). laid_rows x.state) from-fresh);
+                pick _ true (laid_messages (ran_file bytes).state) _ messages' told (a.messages-laid ∙ ap (λ (x : Ran). laid_messages x.state) from-fresh);
+            rows_left = pick _ true (laid_rows (ran_file bytes).state) _ rows' told (a.rows-laid ∙ ap (λ (x : Ran). laid_rows x.state) from-fresh);
           }
 
   -- ---- a file that does not

@@ -1,15 +1,13 @@
 -- What a turn that was carried out or stopped comes to; and that a run is its first turn and the run of the rest.
 use Rattle.std.specs.Prelude.{ℕ, suc, ◌-◌, ◌<◌, ◌≡◌, refl, Bool, true, false, cond, List, eqb, length}
 use Rattle.std.proofs.Common.{sym, ap, subst, ◌∙◌, arith}
-use Rattle.std.proofs.lemmas.Bool.{false≢true, eqb-false}
+use Rattle.std.proofs.lemmas.Bool.{false≢true}
 use Rattle.words.specs.declared.Message.{Message}
 use Rattle.tables.specs.declared.Row.{Row}
 use Rattle.state.specs.declared.Bench.{Bench}
-use Rattle.state.specs.declared.Event.{Event}
 use Rattle.state.specs.declared.Stepped.{Stepped}
 use Rattle.state.specs.State.{State, view, laid_messages, laid_rows}
 use Rattle.state.specs.Step.{step}
-use Rattle.state.proofs.Refusals.{refused-changes-nothing}
 use Rattle.state.specs.Tabled.{tabled, bench_of}
 use Rattle.state.proofs.Sized.{Sized}
 use Rattle.state.specs.WellFormed.{well_formed}
@@ -19,8 +17,9 @@ use Rattle.format.specs.Format.{event_at}
 use Rattle.advance.specs.Advanced.{Advanced}
 use Rattle.advance.specs.Good.{messages-are, rows_are, bench-is}
 use Rattle.schedule.specs.declared.Turn.{Turn}
-use Rattle.schedule.specs.Run.{Ran, stopped, followed, turned, ran}
+use Rattle.schedule.specs.Run.{Ran, stopped, ran}
 use Rattle.schedule.specs.EventLaws.{Onward, onward}
+use Rattle.schedule.proofs.BehindLaws.{left, left_by, turned_left}
 use Rattle.schedule.proofs.RunLaws.{run-turn, run-well-formed, run-sized}
 use Rattle.advance.proofs.TabledLaws.{step-well, step-sized, tabled-well, tabled-sized, holds-tabled, holds-view}
 use Rattle.schedule.specs.Turns.{RanOn, is_next, event_of, behind_of, number_of, went_on, stopped_at, begun_at, ended_at, Went, went, turn_of, Turned}
@@ -68,26 +67,6 @@ went-sized : (s : State) (parse : Parse) → Sized s → Sized (went s parse).st
 went-sized s (Next event at) z = step-sized s event z
 went-sized s (Refused number) z = z
 went-sized s End z = z
-
--- what is still to be done from here
-abbrev pub left : List ℕ → Bool → ℕ → ℕ → State → Ran
-left bytes go number at s = cond go (ran bytes at s) (stopped number s)
-
-abbrev left_by : List ℕ → Went → Ran
-left_by bytes w = left bytes w.go w.refusal w.at w.state
-
-followed-left : (bytes : List ℕ) (s : State) (event : Event) (at : ℕ) → followed s (λ t. ran bytes at t) (step s event) ≡ left_by bytes (went s (Next event at))
-followed-left bytes s event at = go (eqb (step s event).refusal 0) refl
-  where
-    go : (b : Bool) → eqb (step s event).refusal 0 ≡ b
-        → cond b (ran bytes at (step s event).state) (stopped (step s event).refusal s) ≡ left bytes b (step s event).refusal at (step s event).state
-    go true e = refl
-    go false e = ap (stopped (step s event).refusal) (sym (refused-changes-nothing s event (eqb-false (step s event).refusal 0 e)))
-
-turned_left : (bytes : List ℕ) (s : State) (parse : Parse) → turned s (λ j t. ran bytes j t) parse ≡ left_by bytes (went s parse)
-turned_left bytes s (Next event at) = followed-left bytes s event at
-turned_left bytes s (Refused number) = refl
-turned_left bytes s End = refl
 
 run-left : (bytes : List ℕ) (at : ℕ) (s : State) → left_by bytes (went s (event_at bytes at)) ≡ ran bytes at s
 run-left bytes at s = sym (run-turn bytes at s ∙ turned_left bytes s (event_at bytes at))
