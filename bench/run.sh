@@ -35,64 +35,32 @@ shift $((OPTIND - 1))
 case $least in '' | *[!0-9]* | 0) die "-m takes a number of milliseconds, 1 or more" ;; esac
 
 cd "$(dirname "$0")/.." || exit 1
-[ -x target/bin/repeat ] || die "target/bin/repeat is not there: run rt check first"
+repeat=crates/repeat/out/repeat
+[ -x "$repeat" ] || die "there is no $repeat: run 'rt run </dev/null' in crates/repeat first"
 ls vectors/*.schedule >/dev/null 2>&1 || die "vectors/ has no schedule"
-command -v rt >/dev/null || die "rt is not on the path: the kit is needed to compile the variant"
-[ "$(uname -m)" = x86_64 ] || die "programs are compiled for x86-64; under an emulator a time says nothing"
-kit=$(rt doc) && kit=${kit%/docs/*}
-own=$kit/on/$(uname -m) tools=$kit/on/$(uname -m)/toolchain c_code=$kit/lib/libos_c.a
+command -v rt >/dev/null || die "rt is not on the path: the kit is needed to build the variant"
+. bench/copy.sh
 
 work=$(mktemp -d) || exit 1
 trap 'rm -rf "$work"' EXIT
 
-# Runs a program as rt does, under the loader and the C library of the kit.
-run() { # PROGRAM COUNT
-    "$tools/lib/ld-linux-x86-64.so.2" --library-path "$tools/lib" "$1" "$2"
-}
-
-# ---- the variant: one line of a copy is edited, and the copy compiled with no proof by the code that 'rt try' runs. The compiler of the kit
-# is called by way of a script that keeps the object file made at -O3; `rt check` compiles and links with the same words.
-compile_variant() {
-    local crate words=() needs
-    for crate in schedule replaying repeat; do cp -R "crates/$crate/src" "$work/$crate" || return; done
+# ---- the variant: one call is edited in a copy of `repeat` and of what it stands on, and what changes by it is proved and built anew, by the same words as the program itself.
+build_variant() {
+    local copy=$work/copy
+    copy_crates "$copy" repeat && mkdir -p "$copy/crates/schedule/proofs/carry_out" && cp bench/step-answers.txt "$copy/crates/schedule/proofs/carry_out/Answers.antt" || return
     sed 's/advance::advance(&mut \*messages, &mut \*rows, bench, event)/bench::step(bench, event, \&mut *messages, \&mut *rows)/' \
-        crates/schedule/src/lib.rt >"$work/schedule/lib.rt"
-    [ "$(diff crates/schedule/src/lib.rt "$work/schedule/lib.rt" | grep -c '^>')" = 1 ] || { echo 'the call of advance is not found in crates/schedule/src/lib.rt'; return 1; }
-
-    mkdir -p "$work/toolchain/bin" && ln -s "$tools/lib" "$work/toolchain/lib" && ln -s "$tools/bin/ld.lld" "$tools/bin/llvm-ar" "$work/toolchain/bin/" || return
-    printf '#!/bin/sh\n"%s" "$@" || exit\ncase " $* " in *" -O3 "*) cp module.o "%s" ;; esac\n' "$tools/bin/clang" "$work/step.o" >"$work/toolchain/bin/clang"
-    chmod +x "$work/toolchain/bin/clang"
-
-    # every library that `repeat` stands on, by way of others too, each behind those that it stands on itself
-    needs="std $(awk '
-        function visit(name,    k, count, words) {
-            if (name in seen) return
-            seen[name]
-            count = split(stands[name], words, " ")
-            for (k = 1; k <= count; k++) visit(words[k])
-            if (name != "repeat") print name
-        }
-        { sub(/#.*/, "") }
-        split($0, part, ":") == 2 { stands[part[1]] = part[2] }
-        END { visit("repeat") }' crates.txt)"
-    for crate in $needs; do
-        if [ -d "$work/$crate" ]; then words+=(--lib "$crate=$work/$crate/lib.rt")
-        elif [ -d "target/rlib/$crate.rlib" ]; then words+=(--extern "$crate=target/rlib/$crate.rlib")
-        else words+=(--extern "$crate=$own/rlib/$crate.rlib"); fi
-    done
-    run target/bin/repeat 1 </dev/null >"$work/none" || return
-    "$own/bin/rattle-cases" --toolchain "$work/toolchain" --link "$c_code" --arg 1 --stdin /dev/null --stdout "$work/none" \
-        "$work/repeat/main.rt" --crate-name repeat "${words[@]}" || return
-    "$own/bin/rattle-link" --target x86_64-unknown-linux-gnu --toolchain "$tools" -o "$work/step" "$work/step.o" "$c_code"
+        crates/schedule/src/lib.rt >"$copy/crates/schedule/src/lib.rt"
+    [ "$(diff crates/schedule/src/lib.rt "$copy/crates/schedule/src/lib.rt" | grep -c '^>')" = 1 ] || { echo 'the call of advance is not found in crates/schedule/src/lib.rt'; return 1; }
+    (cd "$copy/crates/repeat" && rt run </dev/null) && cp "$copy/crates/repeat/out/repeat" "$work/step"
 }
-compile_variant >"$work/log" 2>&1 || { cat "$work/log" >&2; die "the variant is not compiled"; }
+build_variant >"$work/log" 2>&1 || { cat "$work/log" >&2; die "the variant is not built"; }
 
 # ---- times
 
 # Milliseconds of processor time, for COUNT replays in one process. Processor time, since other work may run beside it.
 spent() { # PROGRAM FILE COUNT
     local TIMEFORMAT='%3U %3S'
-    { time run "$1" "$3" <"$2" >"$work/text"; } 2>&1 | awk '{ printf "%d", ($1 + $2) * 1000 + 0.5 }'
+    { time "$1" "$3" <"$2" >"$work/text"; } 2>&1 | awk '{ printf "%d", ($1 + $2) * 1000 + 0.5 }'
 }
 
 # Nanoseconds for one replay: the best of three timings, from each of which that of a single replay is taken off, so that the start of the
@@ -133,11 +101,11 @@ while read -r name events rows flight; do
         continue
     fi
     taken=$((taken + 1))
-    for program in target/bin/repeat "$work/step"; do
-        run "$program" 2 <"vectors/$name.schedule" >"$work/text"
+    for program in "$repeat" "$work/step"; do
+        "$program" 2 <"vectors/$name.schedule" >"$work/text"
         cmp -s "$work/text" "vectors/$name.expected" || die "$name: what was written is not vectors/$name.expected"
     done
-    plain=$(cost target/bin/repeat "vectors/$name.schedule")
+    plain=$(cost "$repeat" "vectors/$name.schedule")
     tested=$(cost "$work/step" "vectors/$name.schedule")
     awk -v name="$name" -v e="$events" -v rows="$rows" -v flight="$flight" -v p="$plain" -v t="$tested" 'BEGIN {
         printf "%-20s %6d %5d %6d | %12d %9.0f | %12d %9.0f | %6.1f\n", name, e, rows, flight, p, p / e, t, t / e, (p > 0 ? t / p : 0) }'

@@ -11,8 +11,8 @@ Builds our library and the harness, compares both sides on every vector and on t
   - the instructions of both for each FILE and for the schedules of 200 seeds together, where valgrind is found.
 Default FILEs: r17-events, r16-rows, p09-invoke-at-505 of vectors/.
 
-  -x   on a machine that is not x86-64: the archive of `rt staticlib` itself, with a harness for x86-64, under an emulator. No times; instructions by harness/count.c.
-       RUSTC_X86_64 is a command that compiles Rust for x86-64 and links it, QEMU_X86_64 an emulator with plugins that runs the result; harness/README.md says where to get them
+  -x   under an emulator of x86-64, where there is no valgrind: no times; instructions by harness/count.c.
+       RUSTC_X86_64 is a command that compiles Rust for x86-64 and links it, QEMU_X86_64 an emulator with plugins that runs the result; harness/README.md has an example
 END
 }
 

@@ -1,6 +1,6 @@
-/* Wagonmoth for C hosts: the functions of the crate `capi`, each proved to be the function that it wraps. `rt staticlib capi` proves them and writes target/staticlib/libcapi.a,
-   for programs of x86-64; tools/build-c.sh also makes a shared library, and examples/host.c is a host. A host passes pointers to memory of at least the length that it names; the
-   two buffers of one call do not overlap. Nothing is kept between calls. */
+/* Wagonmoth for C hosts: the functions of the crate `capi`, each proved to be the function that it wraps, exported by the static library `capi_c`. `rt lib` in crates/capi_c proves them
+   and writes out/libcapi_c.a, for programs of x86-64; tools/build-c.sh also makes a shared library, and examples/host.c is a host. A host passes pointers to memory of at least the length
+   that it names; the two buffers of one call do not overlap. Nothing is kept between calls. */
 #ifndef WAGONMOTH_H
 #define WAGONMOTH_H
 

@@ -1,11 +1,11 @@
 #!/usr/bin/env bash
 # Replays every schedule of vectors/ and examples/ and compares what the program prints with the file beside it, byte for byte.
-# Names each that differs. The last line is 'N passed, M failed'. Run `rt check replay` first.
+# Names each that differs. The last line is 'N passed, M failed'. Run `rt run` in crates/replay first, or `rt ci`.
 set -u
 cd "$(dirname "$0")/.."
 
-if [ ! -x target/bin/replay ]; then
-    echo "vectors/compare.sh: there is no target/bin/replay: run 'rt check replay' first" >&2
+if [ ! -x crates/replay/out/replay ]; then
+    echo "vectors/compare.sh: there is no crates/replay/out/replay: run 'rt run </dev/null' in crates/replay first" >&2
     echo "0 passed, 1 failed"
     exit 1
 fi

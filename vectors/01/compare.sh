@@ -3,13 +3,13 @@
 #   NAME.txt       gives NAME.schedule, or, where there is NAME.wrong, nothing but NAME.wrong on standard error
 #   NAME.schedule  gives NAME.shown, or, where there is none, NAME.txt, which then has no comment and no spare blank; of a text of examples/, what `compose` makes the file of again
 #   NAME.flight    is what `flight` prints of NAME.schedule
-# Names each that differs. The last line is 'N passed, M failed'. Run `rt check compose show flight` first.
+# Names each that differs. The last line is 'N passed, M failed'. Run `rt run` in crates/compose, crates/show and crates/flight first, or `rt ci`.
 set -u
 cd "$(dirname "$0")/../.."
 
 for program in compose show flight; do
-    if [ ! -x "target/bin/$program" ]; then
-        echo "vectors/01/compare.sh: there is no target/bin/$program: run 'rt check compose show flight' first" >&2
+    if [ ! -x "crates/$program/out/$program" ]; then
+        echo "vectors/01/compare.sh: there is no crates/$program/out/$program: run 'rt run </dev/null' in crates/$program first" >&2
         echo "0 passed, 1 failed"
         exit 1
     fi

@@ -1,13 +1,13 @@
 #!/usr/bin/env bash
 # Judges every history of vectors/10/ and compares what the program prints with the file beside it, byte for byte. Then writes the history file of every schedule of vectors/ and
 # examples/ and has it judged: it is accepted, or the schedule starts no bench, and the line is the replay's.
-# Names each that differs. The last line is 'N passed, M failed'. Run `rt check verdict history` first.
+# Names each that differs. The last line is 'N passed, M failed'. Run `rt run` in crates/verdict and crates/history first, or `rt ci`.
 set -u
 cd "$(dirname "$0")/../.."
 
 for program in verdict history; do
-    if [ ! -x "target/bin/$program" ]; then
-        echo "vectors/10/compare.sh: there is no target/bin/$program: run 'rt check $program' first" >&2
+    if [ ! -x "crates/$program/out/$program" ]; then
+        echo "vectors/10/compare.sh: there is no crates/$program/out/$program: run 'rt run </dev/null' in crates/$program first" >&2
         echo "0 passed, 1 failed"
         exit 1
     fi

@@ -1,13 +1,13 @@
 #!/usr/bin/env bash
 # The program `sheet`, byte for byte: over the files NAME.*.schedule in order it prints NAME.expected; over all schedules of vectors/ it prints what the texts of their replays add up to;
 # and a file that cannot be read adds nothing and is counted on the last line of standard error.
-# Names each that differs. The last line is 'N passed, M failed'. Run `rt check sheet` first.
+# Names each that differs. The last line is 'N passed, M failed'. Run `rt run` in crates/sheet first, or `rt ci`.
 set -u
 shopt -s nullglob
 cd "$(dirname "$0")/../.."
 
-if [ ! -x target/bin/sheet ]; then
-    echo "vectors/11/compare.sh: there is no target/bin/sheet: run 'rt check sheet' first" >&2
+if [ ! -x crates/sheet/out/sheet ]; then
+    echo "vectors/11/compare.sh: there is no crates/sheet/out/sheet: run 'rt run </dev/null' in crates/sheet first" >&2
     echo "0 passed, 1 failed"
     exit 1
 fi

@@ -1,4 +1,4 @@
-// The C interface: functions over numbers and bytes, each the function that it wraps. In C a slice is a pointer and then a length (include/wagonmoth.h).
+// The C interface: functions over numbers and bytes, each the function that it wraps. The crate capi_c exports them under the same names.
 #![tactic(auto)]
 
 ghost use Rattle.std.specs.Prelude.{◌≡◌, ◌+◌, ◌*◌};
@@ -13,64 +13,56 @@ use words::stamps::rank_of;
 use words::{Pid, Stamp, Time};
 
 // The text of a replay.
-#[unsafe(no_mangle)]
-pub extern "C" fn wagonmoth_replay(bytes: &[u8], out: &mut [u8]) -> usize
+pub fn wagonmoth_replay(bytes: &[u8], out: &mut [u8]) -> usize
     ensures { (result ≡ replay_reply bytes.now out.old) × (out.new ≡ replay_left bytes.now out.old) }
 {
     replaying::replay(bytes, &mut *out)
 }
 
 // No text of a replay is longer.
-#[unsafe(no_mangle)]
-pub extern "C" fn wagonmoth_longest_text() -> usize
+pub fn wagonmoth_longest_text() -> usize
     ensures { result ≡ 81563 }
 {
     replaying::LONGEST_TEXT
 }
 
 // Whether the order in a history file explains it: 0, or the number of the refusal.
-#[unsafe(no_mangle)]
-pub extern "C" fn wagonmoth_verdict(bytes: &[u8]) -> u8
+pub fn wagonmoth_verdict(bytes: &[u8]) -> u8
     ensures { result ≡ verdict_of bytes.now }
 {
     verdicts::verdict(bytes)
 }
 
 // A sheet that no schedule was added to.
-#[unsafe(no_mangle)]
-pub extern "C" fn wagonmoth_empty_sheet() -> Sheet
+pub fn wagonmoth_empty_sheet() -> Sheet
     ensures { result ≡ empty_sheet }
 {
     figures::empty_sheet()
 }
 
 // A sheet with one schedule more, or 28 and the sheet as it was.
-#[unsafe(no_mangle)]
-pub extern "C" fn wagonmoth_add_schedule(sheet: Sheet, bytes: &[u8]) -> Added
+pub fn wagonmoth_add_schedule(sheet: Sheet, bytes: &[u8]) -> Added
     ensures { result ≡ added sheet bytes.now }
 {
     sheets::add(sheet, bytes)
 }
 
 // The text of a sheet.
-#[unsafe(no_mangle)]
-pub extern "C" fn wagonmoth_print_sheet(sheet: Sheet, out: &mut [u8]) -> usize
+pub fn wagonmoth_print_sheet(sheet: Sheet, out: &mut [u8]) -> usize
     ensures { (result ≡ print_reply sheet out.old) × (out.new ≡ print_left sheet out.old) }
 {
     sheet_text::print(sheet, &mut *out)
 }
 
 // No text of a sheet is longer.
-#[unsafe(no_mangle)]
-pub extern "C" fn wagonmoth_longest_sheet() -> usize
+pub fn wagonmoth_longest_sheet() -> usize
     ensures { result ≡ 1409 }
 {
     sheet_text::LONGEST_TEXT
 }
 
 // The one number by which stamps are compared.
-#[unsafe(no_mangle)]
-pub extern "C" fn wagonmoth_rank(time: u32, process: u8) -> u64
+pub fn wagonmoth_rank(time: u32, process: u8) -> u64
     ensures { result ≡ time * 8 + process }
 {
     rank_of(Stamp {

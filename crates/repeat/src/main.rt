@@ -1,7 +1,8 @@
 // For the benchmark in bench/: a schedule from standard input, replayed as many times as the first argument says, its text written once.
 #![tactic(auto)]
 
-use libc::{STDIN_FILENO, STDOUT_FILENO};
+use std::env::Env;
+use std::io;
 
 // One more digit of a number; a byte that is no digit leaves it.
 fn digit(number: u64, byte: u8) -> u64 {
@@ -36,14 +37,15 @@ fn replay_all(bytes: &[u8], text: &mut [u8], count: u64) {
     }
 }
 
-fn main() {
+fn main(rt: HostRuntime) -> io::Result<()> {
     let mut word = [0u8; 6];
     let mut bytes = [0u8; 65537];
     let mut text = [0u8; 81563];
-    os::arg(1, &mut word);
+    // With no argument the word stays empty, and of a longer one it has the front.
+    let _ = rt.arg(1, &mut word);
     let count = number(&word);
-    let read = io::read_full(STDIN_FILENO, &mut bytes);
+    let read = input::read_full(&mut rt.stdin(), &mut bytes)?;
     replay_all(&bytes[..read], &mut text, count);
     let written = replaying::replay(&bytes[..read], &mut text);
-    io::write_all(STDOUT_FILENO, &text[..written]);
+    rt.write_all(&text[..written])
 }

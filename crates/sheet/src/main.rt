@@ -2,7 +2,9 @@
 #![tactic(auto)]
 
 use figures::Sheet;
-use libc::{STDERR_FILENO, STDOUT_FILENO};
+use std::env::Env;
+use std::fs::File;
+use std::{fs, io, str};
 
 // A thousand replays take long enough to ask how far it is.
 const FILES_A_LINE: usize = 1000;
@@ -21,87 +23,102 @@ struct Work {
     unread: usize,
 }
 
-// The schedule in an open file. A folder can be opened and not read: behind what was read a byte more is asked for, and the answer is below 0.
-fn add_open(sheet: Sheet, fd: i32, name: &[u8]) -> Turn {
+// Says what failed, in the system's words: std's have a number behind them.
+fn fail(rt: &HostRuntime, what: &[u8], error: io::Error) -> io::Result<()> {
+    let text = format!(in rt.alloc(); "{error}")?;
+    let words = text.as_str().split(" (os error ").next().unwrap_or("");
+    rt.stderr().write_all(what)?;
+    eprintln!(rt; ": {words}")
+}
+
+// The schedule in an open file. A folder can be opened and not read.
+fn add_open(rt: &HostRuntime, sheet: Sheet, mut file: File, name: &[u8]) -> io::Result<Turn> {
     // One byte more than the longest schedule has, so that a longer one is refused and not cut.
     let mut bytes = [0u8; 65537];
-    let mut more = [0u8; 1];
-    let read = io::read_full(fd, &mut bytes);
-    if libc::read(fd, &mut more) < 0 {
-        os::fail(name);
-        return Turn {
-            sheet: sheet,
-            read: false,
-        };
+    match input::read_full(&mut file, &mut bytes) {
+        Ok(read) => {
+            let added = sheets::add(sheet, &bytes[..read]);
+            if added.refusal != 0 {
+                rt.stderr().write_all(name)?;
+                eprintln!(rt; ": refused 28, a total would pass 64 bits")?;
+            }
+            let next = added.sheet;
+            Ok(Turn {
+                sheet: next,
+                read: true,
+            })
+        }
+        Err(error) => {
+            fail(rt, name, error)?;
+            Ok(Turn {
+                sheet: sheet,
+                read: false,
+            })
+        }
     }
-    let added = sheets::add(sheet, &bytes[..read]);
-    if added.refusal != 0 {
-        io::write_all(STDERR_FILENO, name);
-        io::write_all(STDERR_FILENO, b": refused 28, a total would pass 64 bits\n");
-    }
-    let next = added.sheet;
-    Turn {
-        sheet: next,
-        read: true,
+}
+
+// std opens no file whose name is not UTF-8.
+fn open(rt: &HostRuntime, name: &[u8]) -> io::Result<File> {
+    match str::from_utf8(name) {
+        Ok(path) => fs::open(rt, path),
+        Err(_) => Err(io::Error::from(io::ErrorKind::InvalidFilename)),
     }
 }
 
 // The schedule in the file that an argument names.
-fn add_named(sheet: Sheet, i: usize) -> Turn {
-    let mut name = io::buffer();
-    let length = os::arg(i, &mut name);
-    let fd = os::open_read(&name[..length]);
-    if fd < 0 {
-        os::fail(&name[..length]);
-        return Turn {
-            sheet: sheet,
-            read: false,
-        };
+fn add_named(rt: &HostRuntime, sheet: Sheet, i: usize) -> io::Result<Turn> {
+    let mut name = [0u8; 4096];
+    let length = rt.arg(i, &mut name).unwrap_or(0);
+    match open(rt, &name[..length]) {
+        Ok(file) => add_open(rt, sheet, file, &name[..length]),
+        Err(error) => {
+            fail(rt, &name[..length], error)?;
+            Ok(Turn {
+                sheet: sheet,
+                read: false,
+            })
+        }
     }
-    let turn = add_open(sheet, fd, &name[..length]);
-    libc::close(fd);
-    turn
 }
 
 // Over many files a line now and then says how far it is.
-fn tell(done: usize, all: usize) {
+fn tell(rt: &impl Eprint, done: usize, all: usize) -> io::Result<()> {
     if done % FILES_A_LINE == 0 {
-        io::print_decimal(STDERR_FILENO, done as u64);
-        io::write_all(STDERR_FILENO, b" of ");
-        io::print_decimal(STDERR_FILENO, all as u64);
-        io::write_all(STDERR_FILENO, b" files\n");
+        eprintln!(rt; "{done} of {all} files")?;
     }
+    Ok(())
 }
 
 // Argument 0 is the program.
-fn add_all(arguments: usize) -> Work {
+fn add_all(rt: &HostRuntime, arguments: usize) -> io::Result<Work> {
     let mut sheet = figures::empty_sheet();
     let mut unread = 0;
     let mut i = 1;
     while i < arguments {
-        let turn = add_named(sheet, i);
+        let turn = add_named(rt, sheet, i)?;
         sheet = turn.sheet;
         if !turn.read {
             unread += 1;
         }
-        tell(i, arguments - 1);
+        tell(rt, i, arguments - 1)?;
         i += 1;
     }
-    Work {
+    Ok(Work {
         sheet: sheet,
         unread: unread,
-    }
+    })
 }
 
-fn main() {
-    let work = add_all(os::arg_count());
+fn main(rt: HostRuntime) -> io::Result<()> {
+    let work = add_all(&rt, input::argument_count(&rt))?;
     let sheet = work.sheet;
+    let unread = work.unread;
     let mut text = [0u8; 1409];
     let written = sheet_text::print(sheet, &mut text);
-    io::write_all(STDOUT_FILENO, &text[..written]);
-    if work.unread != 0 {
-        io::write_all(STDERR_FILENO, b"files not read: ");
-        io::print_decimal(STDERR_FILENO, work.unread as u64);
-        io::write_all(STDERR_FILENO, b"\n");
+    rt.write_all(&text[..written])?;
+    if unread != 0 {
+        eprintln!(rt; "files not read: {unread}")?;
     }
+    Ok(())
 }

@@ -1,7 +1,7 @@
 // The program: a history file from standard input; to standard output `accepted`, or `refused` and the number.
 #![tactic(auto)]
 
-use libc::{STDERR_FILENO, STDIN_FILENO, STDOUT_FILENO};
+use std::io;
 use text::lines::put_refusal;
 
 // One byte more than the longest history file has, so that a longer one is refused and not cut.
@@ -10,39 +10,34 @@ const BYTES: usize = 14346;
 const LONGEST_LINE: usize = 14;
 
 // It takes no arguments; whoever gives one, as `-h`, is told what it takes.
-fn help() {
-    io::write_all(
-        STDERR_FILENO,
-        b"usage: verdict < FILE\nTells whether the order in the history FILE explains it. The form is in docs/JUDGING.md.\n",
-    );
+fn help(rt: &impl Eprint) -> io::Result<()> {
+    eprintln!(rt;
+        "usage: verdict < FILE\nTells whether the order in the history FILE explains it. The form is in docs/JUDGING.md."
+    )
 }
 
-fn say(line: &[u8]) {
-    if !io::write_all(STDOUT_FILENO, line) {
-        io::write_all(
-            STDERR_FILENO,
-            b"verdict: the verdict could not be written to standard output\n",
-        );
+fn say(rt: &(impl Print + Eprint), line: &[u8]) -> io::Result<()> {
+    if rt.write_all(line).is_err() {
+        eprintln!(rt; "verdict: the verdict could not be written to standard output")?;
     }
+    Ok(())
 }
 
-fn refuse(number: u8) {
+fn refuse(rt: &(impl Print + Eprint), number: u8) -> io::Result<()> {
     let mut line = [0u8; LONGEST_LINE];
     let end = put_refusal(&mut line, 0, number);
-    say(&line[..end]);
+    say(rt, &line[..end])
 }
 
-fn main() {
-    if os::arg_count() > 1 {
-        help();
-        return;
+fn main(rt: HostRuntime) -> io::Result<()> {
+    if input::argument_count(&rt) > 1 {
+        return help(&rt);
     }
     let mut bytes = [0u8; BYTES];
-    let read = io::read_full(STDIN_FILENO, &mut bytes);
+    let read = input::read_full(&mut rt.stdin(), &mut bytes)?;
     let number = verdicts::verdict(&bytes[..read]);
     if number == 0 {
-        say(b"accepted\n");
-        return;
+        return say(&rt, b"accepted\n");
     }
-    refuse(number);
+    refuse(&rt, number)
 }
