@@ -34,10 +34,10 @@ module _ (bytes : List ℕ) (accepted : file_refusal bytes ≡ 0) where
       ap (λ (t : Bool). (cond {A = Entry} t (record { refusal = 0; history = history_of (ran_file bytes).state.rows; traffic = traffic_of (ran_file bytes).state })
       (record { refusal = file_refusal bytes; history = history_of []; traffic = no_traffic })).traffic) (eq-eqb (file_refusal bytes) 0 accepted)
 
-  of-run : (run : List Moment) → Run (ran_file bytes).state run → Counted (ran_file bytes).state run → Told bytes (traffic_of (ran_file bytes).state)
-  of-run run runs c = record { run = run; runs = runs; sent = c.sent; delivered = c.delivered; lost = c.lost; rest = c.balance }
-
   pub events-told : Told bytes (added_by bytes).traffic
   events-told =
       let (run, runs) = reached-run reached in
       subst (Told bytes) (sym adds) (of-run run runs (run-counted (ran_file bytes).state run runs))
+    where
+      of-run : (run : List Moment) → Run (ran_file bytes).state run → Counted (ran_file bytes).state run → Told bytes (traffic_of (ran_file bytes).state)
+      of-run run runs c = record { run = run; runs = runs; sent = c.sent; delivered = c.delivered; lost = c.lost; rest = c.balance }
