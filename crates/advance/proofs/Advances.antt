@@ -1,4 +1,4 @@
--- On a tabled bench the work is what `step` says; and so is what a walk has in hand, part by part.
+-- On a tabled bench the work is what `step` says; and so is each of its parts.
 use Rattle.std.specs.Prelude.{◌≤◌, ◌≡◌, true, List, length, get_or}
 use Rattle.std.proofs.Common.{arith, sym, ap, subst, ◌∙◌}
 use Rattle.words.specs.declared.Message.{Message}
@@ -50,7 +50,7 @@ module _ (b : Bench) (event : Event) (messages : List Message) (rows : List Row)
   pub advances : Advanced b event messages rows (whole_work b event messages rows).stepped (carried_messages (whole_work b event messages rows) messages) (carried_rows (whole_work b event messages rows) rows)
   advances = record { refusal = all.0; bench = all.1; messages-laid = all.2; rows-laid = all.3 }
 
--- the parts that a walk has in hand
+-- its parts, from what was asked and found
 pub whole : (b : Bench) (event : Event) (messages : List Message) (rows : List Row) (a : Asked) (k : Known) → a ≡ asked_in b event messages → k ≡ known_of a (get_or rows a.at empty_row) → work_of b event k ≡ whole_work b event messages rows
 unfolding whole_work
 whole b event messages rows a k ea ek = ap (work_of b event) (ek ∙ ap (λ (u : Asked). known_of u (get_or rows u.at empty_row)) ea)

@@ -170,7 +170,7 @@ pub fn work_of(bench: Bench, event: Event, k: Known) -> Work
     work_by(bench, tally(event), w.p, plan)
 }
 
-// The parts of the work, one by one: a walk takes no struct apart.
+// The parts of the work, one by one.
 pub fn cut_in(w: Work) -> bool
     ensures { result ≡ w.cut }
 {

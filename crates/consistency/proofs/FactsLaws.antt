@@ -5,7 +5,8 @@ use Rattle.std.proofs.Common.{sym, ap, subst, ◌∙◌, inl, inr, arith}
 use Rattle.std.proofs.Math.Option.{some}
 use Rattle.words.specs.declared.Stamp.{Stamp}
 use Rattle.words.specs.declared.Pair.{Pair}
-use Rattle.words.proofs.StampLaws.{AtMost, at_most-transitive, below-time, three_ways}
+use Rattle.words.specs.Stamps.{AtMost}
+use Rattle.words.proofs.StampLaws.{at_most-transitive, below-time, three_ways}
 use Rattle.placing.specs.Operation.{Kind, is_write, is_some, listed}
 use Rattle.placing.specs.OneOrder.{earlier}
 use Rattle.placing.specs.Sorting.{lex_below}

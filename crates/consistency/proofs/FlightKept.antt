@@ -5,8 +5,8 @@ use mathlib.Core.List.{List, Memᴰ}
 use Rattle.words.specs.declared.Body.TheVariants.{Query, Response, Update, Ack}
 use Rattle.words.specs.declared.Message.{Message}
 use Rattle.words.specs.declared.Pair.{Pair}
-use Rattle.words.specs.Stamps.{start_pair, newer}
-use Rattle.words.proofs.StampLaws.{AtMost, newer-right}
+use Rattle.words.specs.Stamps.{start_pair, newer, AtMost}
+use Rattle.words.proofs.StampLaws.{newer-right}
 use Rattle.replica.specs.declared.Letter.{Letter}
 use Rattle.replica.specs.declared.Phase.TheVariants.{Querying, Updating}
 use Rattle.replica.specs.declared.Replica.{Replica}
@@ -158,10 +158,10 @@ module _ {s t : State} {held after : Held} (sound : Sound s held) (kept : Kept s
       let old = sound.stores message.to.0 c.to-first in
       let inside : x - 1 < length (reached s message).pairs = omega (arith, old.sixteen, tells.first, tells.last) in
       let store = ap (λ (r : Replica). (stored r x).stamp) turn.own in
-      let Kept-pair = get_or-set_same (reached s message).pairs (x - 1) (newer (stored (reached s message) x) pair) start_pair inside in
+      let kept_pair = get_or-set_same (reached s message).pairs (x - 1) (newer (stored (reached s message) x) pair) start_pair inside in
       bears-carried m message.to.0 _ sent.0 c.to-first c.to_last (rw sent.1 c.from_first) (rw sent.1 c.from_last)
       (ack-sent message x flying m sent.1 pair body
-      (subst (AtMost pair.stamp) (sym (store ∙ ap (λ (p : Pair). p.stamp) Kept-pair)) (newer-right (stored (reached s message) x) pair))
+      (subst (AtMost pair.stamp) (sym (store ∙ ap (λ (p : Pair). p.stamp) kept_pair)) (newer-right (stored (reached s message) x) pair))
       (own-clock turn) sent.0)
   move-flight (chooses message i gathered pair r enough turn) = turn-flight turn λ m sent.
       let c = sound.flight message r.flying in

@@ -8,7 +8,8 @@ use Rattle.words.specs.declared.Message.{Message}
 use Rattle.words.specs.declared.Pair.{Pair}
 use Rattle.words.specs.declared.Stamp.{Stamp}
 use Rattle.words.specs.QuorumLaws.{Inside, inside-members}
-use Rattle.words.proofs.StampLaws.{AtMost, at_most-transitive}
+use Rattle.words.specs.Stamps.{AtMost}
+use Rattle.words.proofs.StampLaws.{at_most-transitive}
 use Rattle.replica.specs.declared.Gathered.{Gathered}
 use Rattle.replica.specs.declared.Phase.TheVariants.{Querying, Updating}
 use Rattle.replica.specs.declared.Replica.{Replica}

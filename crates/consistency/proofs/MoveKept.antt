@@ -5,8 +5,8 @@ use Rattle.std.proofs.Math.Decide.{ℕ_discrete}
 use Rattle.std.proofs.Math.ListN.{get_or-append}
 use Rattle.words.specs.declared.Pair.{Pair}
 use Rattle.words.specs.declared.Time.{Time}
-use Rattle.words.specs.Stamps.{start_pair, newer}
-use Rattle.words.proofs.StampLaws.{AtMost, at_most-reflexive, newer-left}
+use Rattle.words.specs.Stamps.{start_pair, newer, AtMost}
+use Rattle.words.proofs.StampLaws.{at_most-reflexive, newer-left}
 use Rattle.replica.specs.declared.Gathered.{Gathered}
 use Rattle.replica.specs.declared.Phase.TheVariants.{Querying}
 use Rattle.replica.specs.declared.Replica.{Replica}

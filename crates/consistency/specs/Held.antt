@@ -5,8 +5,8 @@ use Rattle.std.proofs.Common.{sym, ◌∙◌, arith, le-leb}
 use Rattle.std.proofs.Math.Decide.{dec_le}
 use Rattle.std.proofs.lemmas.Bool.{lt-leb}
 use Rattle.words.specs.declared.Stamp.{Stamp}
-use Rattle.words.specs.Stamps.{start_stamp}
-use Rattle.words.proofs.StampLaws.{AtMost, at_most-reflexive, at_most-transitive}
+use Rattle.words.specs.Stamps.{start_stamp, AtMost}
+use Rattle.words.proofs.StampLaws.{at_most-reflexive, at_most-transitive}
 use Rattle.replica.specs.declared.Replica.{Replica}
 use Rattle.replica.specs.Handlers.{stored}
 use Rattle.state.specs.State.{State, replica_of}

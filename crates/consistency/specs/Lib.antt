@@ -1,4 +1,4 @@
--- What a reader has to believe; and, in Demand3, what is proved
+-- What a reader has to believe
 pub mod Operations
 pub mod Demand3
 -- Theory: what processes held, the moves of a run, the invariant

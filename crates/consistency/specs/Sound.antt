@@ -10,8 +10,7 @@ use Rattle.words.specs.declared.Pair.{Pair}
 use Rattle.words.specs.declared.Stamp.{Stamp}
 use Rattle.words.specs.Quorum.{member, counted}
 use Rattle.words.specs.QuorumLaws.{Inside}
-use Rattle.words.specs.Stamps.{stamp_of, start_pair}
-use Rattle.words.proofs.StampLaws.{AtMost}
+use Rattle.words.specs.Stamps.{stamp_of, start_pair, AtMost}
 use Rattle.replica.specs.declared.Gathered.{Gathered}
 use Rattle.replica.specs.declared.Phase.TheVariants.{Idle, Querying, Updating}
 use Rattle.replica.specs.Numbers.{pointed}

@@ -5,7 +5,7 @@ use Rattle.state.specs.declared.Event.{Event}
 use Rattle.state.specs.declared.Event.TheVariants.{Read, Write, Deliver, Crash}
 use Rattle.state.specs.State.{State, fresh}
 use Rattle.state.specs.Step.{step}
-use Rattle.state.proofs.Examples.{after}
+use Rattle.state.specs.Reached.{after}
 
 -- ---- the events, by the number of their process
 

@@ -12,7 +12,7 @@ use Rattle.state.specs.Step.{read_row, write_row, completed, queried_row}
 use Rattle.placing.specs.OneOrder.{listing, point, placed}
 use Rattle.order.specs.Operations.{operations_of}
 
--- ---- P4: one instance of `equal-update`, the law of every replica (`replica/specs/HandlerLaws.antt`)
+-- ---- P4: one instance of `equal-update`, the law of every replica (`replica/proofs/HandlerLaws.antt`)
 
 -- a value with the stamp (2, 3)
 abbrev pub pair_of : ℤ → Pair

@@ -26,7 +26,8 @@ use Rattle.state.specs.declared.Event.{Event}
 use Rattle.state.specs.State.{State, replica_of, row_of, fresh, fresh_replica}
 use Rattle.state.specs.Step.{moved, posted}
 use Rattle.state.specs.Accepted.{message_at, recipient_at}
-use Rattle.state.proofs.PairLaws.{Within, within-ok}
+use Rattle.state.specs.Within.{Within}
+use Rattle.state.proofs.PairLaws.{within-ok}
 use Rattle.state.proofs.WellLaws.{Well, PhaseOk, ReplicaOk, message-ok}
 use Rattle.state.specs.WellFormed.{every, message_fits}
 use Rattle.moves.specs.Lists.{All, all_append, all-removed, all-at}

@@ -2,7 +2,7 @@
 use Rattle.std.specs.Prelude.{ℕ, ◌+◌, ◌≤◌, ◌≡◌, true, false, ◌||◌}
 use Rattle.replica.specs.declared.Phase.TheVariants.{Idle}
 use Rattle.state.specs.State.{State, replica_of}
-use Rattle.state.proofs.PairLaws.{Within}
+use Rattle.state.specs.Within.{Within}
 use Rattle.moves.specs.Lists.{All}
 use Rattle.moves.specs.Stages.{stage_of}
 use Rattle.moves.specs.RequestNumbers.{exchanged, Known}

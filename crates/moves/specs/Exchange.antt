@@ -5,7 +5,7 @@ use Rattle.words.specs.Quorum.{member}
 use Rattle.replica.specs.Handlers.{is_idle}
 use Rattle.state.specs.State.{State, replica_of}
 use Rattle.state.specs.Accepted.{message_at}
-use Rattle.state.proofs.PairLaws.{Within}
+use Rattle.state.specs.Within.{Within}
 use Rattle.moves.specs.Lists.{one}
 use Rattle.moves.specs.RequestNumbers.{exchanged}
 use Rattle.moves.specs.Stages.{is_reply, stage_of, stage_for}

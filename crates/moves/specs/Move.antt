@@ -26,7 +26,7 @@ use Rattle.state.specs.declared.Event.TheVariants.{Read, Write, Deliver, Crash, 
 use Rattle.state.specs.State.{State, replica_of, row_of}
 use Rattle.state.specs.Step.{read_row, write_row, queried_row, completed, moved, without_message}
 use Rattle.state.specs.Accepted.{message_at, recipient_at}
-use Rattle.state.proofs.PairLaws.{Within}
+use Rattle.state.specs.Within.{Within}
 use Rattle.state.specs.Needed.{needed}
 use Rattle.moves.specs.Stages.{is_reply, stage_of, stage_for}
 

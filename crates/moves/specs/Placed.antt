@@ -7,7 +7,7 @@ use Rattle.words.specs.QuorumLaws.{Inside}
 use Rattle.replica.specs.declared.Phase.TheVariants.{Idle}
 use Rattle.replica.specs.declared.Replica.{Replica}
 use Rattle.state.specs.State.{State, replica_of}
-use Rattle.state.proofs.PairLaws.{Within}
+use Rattle.state.specs.Within.{Within}
 use Rattle.moves.specs.Lists.{All}
 use Rattle.state.specs.Needed.{needed}
 

@@ -15,7 +15,7 @@ use Rattle.tables.specs.declared.Row.{Row}
 use Rattle.tables.specs.Tables.{copies}
 use Rattle.state.specs.State.{State, replica_of}
 use Rattle.state.specs.Step.{moved, posted, message_of}
-use Rattle.state.proofs.PairLaws.{Within}
+use Rattle.state.specs.Within.{Within}
 use Rattle.moves.specs.Effect.{GoesOn, Effect, After}
 use Rattle.moves.specs.Effect.Effect.{kept, asked, ended}
 use Rattle.moves.specs.Lists.{one, All, all_map, all_append, all-copies, count_if, count-append, count_none}

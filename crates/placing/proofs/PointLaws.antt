@@ -6,7 +6,8 @@ use mathlib.Core.List.{List, [], ◌∷◌, foldr, Memᴰ}
 use Rattle.std.proofs.Math.Dec.{not_T}
 use Rattle.std.proofs.Math.Facts.{and_yes, yes_and}
 use Rattle.words.specs.declared.Stamp.{Stamp}
-use Rattle.words.proofs.StampLaws.{AtMost, at_most-reflexive, at_most-transitive}
+use Rattle.words.specs.Stamps.{AtMost}
+use Rattle.words.proofs.StampLaws.{at_most-reflexive, at_most-transitive}
 use Rattle.placing.specs.Sorting.{select, lex_below}
 use Rattle.placing.specs.OneOrder.{Entry, greater, invocation, register_key, earlier, up_to, point, order_key}
 use Rattle.placing.specs.Order.{Strict, asymmetric}

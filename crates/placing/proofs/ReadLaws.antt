@@ -9,8 +9,8 @@ use Rattle.std.proofs.Math.Option.{Option, none, some}
 use Rattle.std.proofs.Math.Dec.{T, not_T}
 use Rattle.std.proofs.Math.Facts.{and_yes}
 use Rattle.words.specs.declared.Stamp.{Stamp}
-use Rattle.words.specs.Stamps.{below, start_stamp}
-use Rattle.words.proofs.StampLaws.{AtMost, at_most-time, at_most-antisymmetric}
+use Rattle.words.specs.Stamps.{below, start_stamp, AtMost}
+use Rattle.words.proofs.StampLaws.{at_most-time, at_most-antisymmetric}
 use Rattle.placing.specs.Operation.{Operation, Kind, is_write, listed}
 use Rattle.placing.specs.Sequential.{wrote, holds}
 use Rattle.placing.specs.OneOrder.{Entry, listing, register_key, earlier, placed}

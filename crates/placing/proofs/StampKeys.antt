@@ -2,8 +2,8 @@
 use Rattle.std.specs.Prelude.{ℕ, ◌≡◌, refl, Bool, true, false, cond, List, ◌∷◌, T}
 use Rattle.std.proofs.Common.{ap, inl, inr}
 use Rattle.words.specs.declared.Stamp.{Stamp}
-use Rattle.words.specs.Stamps.{below}
-use Rattle.words.proofs.StampLaws.{AtMost, below-read, below→at_most, at_most-cases, at_most-reflexive}
+use Rattle.words.specs.Stamps.{below, AtMost}
+use Rattle.words.proofs.StampLaws.{below-read, below→at_most, at_most-cases, at_most-reflexive}
 use Rattle.placing.specs.Sorting.{lex_below}
 use Rattle.placing.specs.OneOrder.{greater}
 use Rattle.placing.specs.LexLaws.{lex-less, lex-same}

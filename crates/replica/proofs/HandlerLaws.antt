@@ -54,8 +54,8 @@ use Rattle.words.specs.Limits.{most_rows, most_time, most_rid}
 use Rattle.words.specs.Ranges.{within, pair_fits, sender_fits, repliers_fit}
 use Rattle.replica.specs.Ranges.{replica_inside}
 use Rattle.words.specs.RangeLaws.{and_left, and_right, and-unless}
-use Rattle.words.specs.Stamps.{start_pair}
-use Rattle.words.proofs.StampLaws.{AtMost, newer-kept, at_most-reflexive}
+use Rattle.words.specs.Stamps.{start_pair, AtMost}
+use Rattle.words.proofs.StampLaws.{newer-kept, at_most-reflexive}
 
 -- ---- a number that is 0 lets the rule through, another one refuses
 

@@ -14,7 +14,8 @@ use Rattle.state.specs.Step.{Outcome, posted, step}
 use Rattle.state.specs.Accepted.{message_at, recipient_at, plain}
 use Rattle.state.proofs.AcceptedLaws.{Invoked}
 use Rattle.state.proofs.KeepsMoved.{posted-length}
-use Rattle.state.proofs.PairLaws.{Within, within-ok}
+use Rattle.state.specs.Within.{Within}
+use Rattle.state.proofs.PairLaws.{within-ok}
 use Rattle.state.proofs.WellLaws.{Well}
 use Rattle.sc_abd.specs.System.{Call, System, Action, Enabled, without, on_arrival, outstanding, taken}
 use Rattle.sc_abd.specs.Same.{packet_of, operation_of, Same}

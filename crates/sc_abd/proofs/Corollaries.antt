@@ -18,7 +18,7 @@ use Rattle.state.specs.State.{State, fresh_replica, replica_of, row_of}
 use Rattle.state.specs.Step.{asked_register, step}
 use Rattle.state.specs.Accepted.{message_at, recipient_at, plain, plain_by, deliver_next}
 use Rattle.state.proofs.AcceptedLaws.{deliver-accepted}
-use Rattle.state.proofs.PairLaws.{Within}
+use Rattle.state.specs.Within.{Within}
 use Rattle.state.proofs.WellLaws.{MessageOk, Well, well, message-at}
 use Rattle.state.specs.Counting.{Moment, Run}
 use Rattle.state.proofs.CountingLaws.{run-reached}

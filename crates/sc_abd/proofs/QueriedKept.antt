@@ -31,7 +31,7 @@ use Rattle.state.specs.Counting.RunBy.{begun, then}
 use Rattle.state.proofs.CountingLaws.{run-reached}
 use Rattle.state.proofs.Keeps.{reached-well-formed}
 use Rattle.state.proofs.KeepsInvoke.{added-last}
-use Rattle.state.proofs.PairLaws.{Within}
+use Rattle.state.specs.Within.{Within}
 use Rattle.state.proofs.PendingLaws.{pending-within}
 use Rattle.state.proofs.RowsLaws.{row_stays}
 use Rattle.state.proofs.WellLaws.{MessageOk, PhaseOk, Well, well, message-at}

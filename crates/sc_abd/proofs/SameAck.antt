@@ -24,7 +24,7 @@ use Rattle.state.specs.State.{State, replica_of, row_of}
 use Rattle.state.specs.Step.{kept, completed}
 use Rattle.state.specs.WellFormed.{pending_of}
 use Rattle.state.specs.Accepted.{message_at}
-use Rattle.state.proofs.PairLaws.{Within}
+use Rattle.state.specs.Within.{Within}
 use Rattle.state.proofs.PendingLaws.{waits, waits-other, pending-within, pending-process, pending-same, pending_done}
 use Rattle.state.proofs.WellLaws.{Well}
 use Rattle.sc_abd.specs.Algorithm1.{Process, Reply, Return, Done, join, majority, unhandled, ack_counted as paper_counted, on_ack}

@@ -11,7 +11,7 @@ use Rattle.replica.specs.Handlers.{crash_rule}
 use Rattle.state.specs.State.{State, replica_of}
 use Rattle.state.specs.Step.{without_message}
 use Rattle.state.specs.Accepted.{crash_next}
-use Rattle.state.proofs.PairLaws.{Within}
+use Rattle.state.specs.Within.{Within}
 use Rattle.state.proofs.WellLaws.{Well}
 use Rattle.sc_abd.specs.Algorithm1.{Process}
 use Rattle.sc_abd.specs.System.{System, Action, without, taken}

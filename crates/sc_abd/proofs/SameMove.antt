@@ -12,7 +12,7 @@ use Rattle.tables.specs.declared.Row.{Row}
 use Rattle.tables.specs.Tables.{empty_row}
 use Rattle.state.specs.State.{State, replica_of, row_of}
 use Rattle.state.specs.Step.{moved, posted}
-use Rattle.state.proofs.PairLaws.{Within}
+use Rattle.state.specs.Within.{Within}
 use Rattle.state.specs.WellFormed.{pending_of}
 use Rattle.state.proofs.WellLaws.{Well}
 use Rattle.sc_abd.specs.Algorithm1.{Packet, Process, Done}

@@ -13,7 +13,7 @@ use Rattle.replica.specs.Handlers.{stored, query_rule, update_rule}
 use Rattle.tables.specs.Tables.{removed}
 use Rattle.state.specs.State.{State, replica_of}
 use Rattle.state.specs.Step.{moved, posted}
-use Rattle.state.proofs.PairLaws.{Within}
+use Rattle.state.specs.Within.{Within}
 use Rattle.state.proofs.WellLaws.{Well}
 use Rattle.sc_abd.specs.Algorithm1.{Tsv, Content, Process, Done, Return, max_tsv, assigned, on_query, on_update}
 use Rattle.sc_abd.specs.System.{Operation, System, is_open, without, changing, returned_by, gone_on, asks_after, history_after, doing}

@@ -26,7 +26,7 @@ use Rattle.state.specs.State.{State, replica_of, row_of}
 use Rattle.state.specs.Step.{moved, message_of, queried_row, answered_rows, asked_register}
 use Rattle.state.specs.WellFormed.{pending_of, is_write}
 use Rattle.state.specs.Accepted.{message_at}
-use Rattle.state.proofs.PairLaws.{Within}
+use Rattle.state.specs.Within.{Within}
 use Rattle.state.proofs.PendingLaws.{pending-within, pending-process, pending-same}
 use Rattle.state.proofs.WellLaws.{PhaseOk, Well, message-at}
 use Rattle.sc_abd.specs.Algorithm1.{Tsv, Content, Process, Reply, Return, Done, bcast, join, max_tsv, max_of, majority}

@@ -28,7 +28,7 @@ use Rattle.state.specs.State.{State, row_of}
 use Rattle.state.specs.Step.{answered_rows, queried_row, completed, step}
 use Rattle.state.specs.Accepted.{message_at, recipient_at, plain, deliver_next}
 use Rattle.state.proofs.AcceptedLaws.{read-accepted, write-accepted, deliver-accepted, crash-accepted, lose-accepted}
-use Rattle.state.proofs.PairLaws.{Within}
+use Rattle.state.specs.Within.{Within}
 use Rattle.state.proofs.PendingLaws.{pending-within, pending-process}
 use Rattle.state.specs.WellFormed.{pending_of}
 use Rattle.state.proofs.WellLaws.{MessageOk, PhaseOk, ReplicaOk, Well, message-at}

@@ -21,7 +21,7 @@ use Rattle.state.specs.declared.Event.TheVariants.{Read, Write, Deliver, Crash, 
 use Rattle.state.specs.State.{State, replica_of, row_of}
 use Rattle.state.specs.Step.{moved}
 use Rattle.state.specs.Accepted.{message_at, recipient_at}
-use Rattle.state.proofs.PairLaws.{Within}
+use Rattle.state.specs.Within.{Within}
 use Rattle.moves.specs.Move.{repliers_then}
 use Rattle.moves.specs.OfLaws.{member-empty}
 use Rattle.moves.specs.Places.{own-after, other_after}

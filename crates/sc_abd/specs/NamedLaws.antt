@@ -20,7 +20,7 @@ use Rattle.state.specs.Counting.{Moment, Run}
 use Rattle.state.specs.Counting.RunBy.{begun as fresh-run, then}
 use Rattle.state.proofs.CountingLaws.{run-reached}
 use Rattle.state.proofs.Keeps.{reached-well-formed}
-use Rattle.state.proofs.PairLaws.{Within}
+use Rattle.state.specs.Within.{Within}
 use Rattle.state.specs.WellFormed.{enough, is_write}
 use Rattle.state.proofs.WellLaws.{Well, well, row-at, RowOk}
 use Rattle.moves.proofs.MoveLaws.{moves}

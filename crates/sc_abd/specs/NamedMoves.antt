@@ -30,7 +30,7 @@ use Rattle.state.specs.Needed.{acks_needed}
 use Rattle.state.specs.State.{State, replica_of, row_of}
 use Rattle.state.specs.Step.{begun_row, read_row, write_row, queried_row, completed, without_message}
 use Rattle.state.specs.Accepted.{message_at, recipient_at}
-use Rattle.state.proofs.PairLaws.{Within}
+use Rattle.state.specs.Within.{Within}
 use Rattle.state.proofs.PendingLaws.{pending-first, pending-within}
 use Rattle.state.specs.WellFormed.{enough, pending_of}
 use Rattle.state.proofs.WellLaws.{PhaseOk, Well, message-at, row-at}

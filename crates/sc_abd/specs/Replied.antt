@@ -16,7 +16,7 @@ use Rattle.state.specs.Needed.{responses_needed, acks_needed}
 use Rattle.state.specs.State.{State, replica_of}
 use Rattle.state.specs.Accepted.{message_at}
 use Rattle.state.specs.Counting.{Moment}
-use Rattle.state.proofs.PairLaws.{Within}
+use Rattle.state.specs.Within.{Within}
 use Rattle.moves.specs.Stages.{Stage, is_reply, stage_of, stage_for}
 
 -- at this moment a reply from j was delivered to p

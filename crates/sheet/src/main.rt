@@ -31,29 +31,33 @@ fn fail(rt: &HostRuntime, what: &[u8], error: io::Error) -> io::Result<()> {
     eprintln!(rt; ": {words}")
 }
 
-// The schedule in an open file. A folder can be opened and not read.
-fn add_open(rt: &HostRuntime, sheet: Sheet, mut file: File, name: &[u8]) -> io::Result<Turn> {
+fn refused(rt: &HostRuntime, name: &[u8]) -> io::Result<()> {
+    rt.stderr().write_all(name)?;
+    eprintln!(rt; ": refused 28, a total would pass 64 bits")
+}
+
+// The schedule in an open file. A folder can be opened and not read. Where standard error can't be written either, the sheet goes on all the same.
+fn add_open(rt: &HostRuntime, sheet: Sheet, mut file: File, name: &[u8]) -> Turn {
     // One byte more than the longest schedule has, so that a longer one is refused and not cut.
     let mut bytes = [0u8; 65537];
     match input::read_full(&mut file, &mut bytes) {
         Ok(read) => {
             let added = sheets::add(sheet, &bytes[..read]);
             if added.refusal != 0 {
-                rt.stderr().write_all(name)?;
-                eprintln!(rt; ": refused 28, a total would pass 64 bits")?;
+                let _ = refused(rt, name);
             }
             let next = added.sheet;
-            Ok(Turn {
+            Turn {
                 sheet: next,
                 read: true,
-            })
+            }
         }
         Err(error) => {
-            fail(rt, name, error)?;
-            Ok(Turn {
+            let _ = fail(rt, name, error);
+            Turn {
                 sheet: sheet,
                 read: false,
-            })
+            }
         }
     }
 }
@@ -67,58 +71,57 @@ fn open(rt: &HostRuntime, name: &[u8]) -> io::Result<File> {
 }
 
 // The schedule in the file that an argument names.
-fn add_named(rt: &HostRuntime, sheet: Sheet, i: usize) -> io::Result<Turn> {
+fn add_named(rt: &HostRuntime, sheet: Sheet, i: usize) -> Turn {
     let mut name = [0u8; 4096];
     let length = rt.arg(i, &mut name).unwrap_or(0);
     match open(rt, &name[..length]) {
         Ok(file) => add_open(rt, sheet, file, &name[..length]),
         Err(error) => {
-            fail(rt, &name[..length], error)?;
-            Ok(Turn {
+            let _ = fail(rt, &name[..length], error);
+            Turn {
                 sheet: sheet,
                 read: false,
-            })
+            }
         }
     }
 }
 
 // Over many files a line now and then says how far it is.
-fn tell(rt: &impl Eprint, done: usize, all: usize) -> io::Result<()> {
+fn tell(rt: &impl Eprint, done: usize, all: usize) {
     if done % FILES_A_LINE == 0 {
-        eprintln!(rt; "{done} of {all} files")?;
+        let _ = eprintln!(rt; "{done} of {all} files");
     }
-    Ok(())
 }
 
 // Argument 0 is the program.
-fn add_all(rt: &HostRuntime, arguments: usize) -> io::Result<Work> {
+fn add_all(rt: &HostRuntime, arguments: usize) -> Work {
     let mut sheet = figures::empty_sheet();
     let mut unread = 0;
     let mut i = 1;
     while i < arguments {
-        let turn = add_named(rt, sheet, i)?;
+        let turn = add_named(rt, sheet, i);
         sheet = turn.sheet;
         if !turn.read {
             unread += 1;
         }
-        tell(rt, i, arguments - 1)?;
+        tell(rt, i, arguments - 1);
         i += 1;
     }
-    Ok(Work {
+    Work {
         sheet: sheet,
         unread: unread,
-    })
+    }
 }
 
 fn main(rt: HostRuntime) -> io::Result<()> {
-    let work = add_all(&rt, input::argument_count(&rt))?;
+    let work = add_all(&rt, input::argument_count(&rt));
     let sheet = work.sheet;
     let unread = work.unread;
     let mut text = [0u8; 1409];
     let written = sheet_text::print(sheet, &mut text);
-    rt.write_all(&text[..written])?;
+    let printed = rt.write_all(&text[..written]);
     if unread != 0 {
-        eprintln!(rt; "files not read: {unread}")?;
+        let _ = eprintln!(rt; "files not read: {unread}");
     }
-    Ok(())
+    printed
 }

@@ -100,7 +100,7 @@ module _ (bytes : List ℕ) (rows : List Row) (long : length rows ≡ 1024) (s :
       go true z = is-run z
       go false z = is-refused z
 
-  -- as the walk has it
+  -- as the count of the rows in use gives it
   pub counted_is : (u : ℕ) (h : History) (r : Entry) → u ≡ s.bench.rows → h ≡ history_of (take u rows') → r ≡ entry_of s h → r ≡ added_by bytes
   counted_is u h r eu eh er = er ∙ ap (entry_of s) (eh ∙ ap (λ (k : ℕ). history_of (take k rows')) eu) ∙ entry-is
 

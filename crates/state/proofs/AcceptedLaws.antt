@@ -23,7 +23,8 @@ use Rattle.state.specs.State.{State, replica_of}
 use Rattle.state.specs.Step.{Outcome, outcome, check, full, no_room, invoke_refusal, lose_refusal, asked_register}
 use Rattle.state.specs.Step.{read_row, write_row, answered_rows, moved, without_message, heard_by, heard}
 use Rattle.state.specs.Step.{step_read, step_write, deliver_at, step_deliver, step_crash, lose_at, step_lose}
-use Rattle.state.proofs.PairLaws.{Within, within-ok}
+use Rattle.state.specs.Within.{Within}
+use Rattle.state.proofs.PairLaws.{within-ok}
 use Rattle.state.specs.Accepted.{plain_by, plain, read_next, write_next, message_at, recipient_at, deliver_next, crash_next}
 
 -- ---- an answer that refuses nothing is the plain rule's

@@ -39,10 +39,10 @@ module _ {A : Type 0} where
   length_removed (suc i) (x ∷ xs) l = let e = length_removed i xs (le_of_suc-le-suc l) in omega arith
 
   -- within, what stands past the end makes no difference
-  pub get_d_default : (xs : List A) (i : ℕ) (d e : A) → i < length xs → get_or xs i d ≡ get_or xs i e
-  get_d_default [] i d e l = absurd (not-suc-le-zero l)
-  get_d_default (x ∷ xs) zero d e l = refl
-  get_d_default (x ∷ xs) (suc i) d e l = get_d_default xs i d e (le_of_suc-le-suc l)
+  pub get_or-default : (xs : List A) (i : ℕ) (d e : A) → i < length xs → get_or xs i d ≡ get_or xs i e
+  get_or-default [] i d e l = absurd (not-suc-le-zero l)
+  get_or-default (x ∷ xs) zero d e l = refl
+  get_or-default (x ∷ xs) (suc i) d e l = get_or-default xs i d e (le_of_suc-le-suc l)
 
   -- a list of one value has it at every place, and behind its end too where that is the default
   pub get_or-empty : (n i : ℕ) (d : A) → get_or (replicate n d) i d ≡ d

@@ -13,13 +13,9 @@ use Rattle.tables.specs.Tables.{empty_row}
 use Rattle.state.specs.declared.Event.{Event}
 use Rattle.state.specs.declared.Event.TheVariants.{Read, Write, Deliver, Crash}
 use Rattle.state.specs.State.{State, fresh}
+use Rattle.state.specs.Reached.{after}
 use Rattle.state.specs.Step.{completed, queried_row, step, step_read, step_write, step_deliver, step_crash}
 use Rattle.state.specs.WellFormed.{well_formed, counts_fit, flight_fits, history_fits, replicas_fit}
-
--- the state after some events, refused ones skipped
-abbrev pub after : State → List Event → State
-after s [] = s
-after s (e ∷ events) = after (step s e).state events
 
 case_a : List Event
 case_a =

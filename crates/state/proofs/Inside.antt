@@ -22,7 +22,8 @@ use Rattle.state.specs.WellFormed.{body_fits}
 use Rattle.state.specs.Accepted.{plain_by, plain, message_at, recipient_at}
 use Rattle.state.proofs.AcceptedLaws.{Invoked}
 use Rattle.state.proofs.EveryLaws.{both}
-use Rattle.state.proofs.PairLaws.{Within, within-ok, ok-within, pair-wider}
+use Rattle.state.specs.Within.{Within}
+use Rattle.state.proofs.PairLaws.{within-ok, ok-within, pair-wider}
 use Rattle.state.proofs.PendingLaws.{pending-within}
 use Rattle.state.proofs.WellLaws.{MessageOk, message-at, PhaseOk, Well, stored_at, asked-at}
 

@@ -15,7 +15,8 @@ use Rattle.state.proofs.EveryLaws.{both}
 use Rattle.state.proofs.KeepsCrash.{crash-keeps, lose-keeps}
 use Rattle.state.proofs.KeepsDeliver.{deliver-keeps}
 use Rattle.state.proofs.KeepsInvoke.{read_keeps, write_keeps}
-use Rattle.state.proofs.PairLaws.{Within, within-ok, pair-start}
+use Rattle.state.specs.Within.{Within}
+use Rattle.state.proofs.PairLaws.{within-ok, pair-start}
 use Rattle.state.proofs.WellLaws.{ReplicaOk, Well, well, unwell}
 
 -- ---- a fresh bench

@@ -38,7 +38,8 @@ use Rattle.state.proofs.FlightLaws.{rising-removed}
 use Rattle.state.proofs.KeepsMoved.{SendsOk, moved_later, moved-well}
 use Rattle.state.proofs.KeepsRow.{queried-ok, completed-ok}
 use Rattle.state.proofs.LaterLaws.{Later, kept-rows, body-later, pair-later, row-later, rows-later, replica-later}
-use Rattle.state.proofs.PairLaws.{Within, within-ok, ok-within, pair-newer}
+use Rattle.state.specs.Within.{Within}
+use Rattle.state.proofs.PairLaws.{within-ok, ok-within, pair-newer}
 use Rattle.state.proofs.PendingLaws.{waits, waits-other, pending-within, pending-process, pending-same, pending_done}
 use Rattle.state.proofs.Quiet.{ahead, ahead-later, Quiet, received-clock, discarded-quiet, query-quiet, update-quiet, own-emptied, joined-within, own-joined}
 use Rattle.state.proofs.WellLaws.{MessageOk, message-at, RowOk, ok-row, row-at, asked-at, PhaseOk, ReplicaOk, Well}

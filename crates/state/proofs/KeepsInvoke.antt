@@ -30,7 +30,8 @@ use Rattle.state.proofs.AcceptedLaws.{Invoked, read-accepted, write-accepted}
 use Rattle.state.proofs.EveryLaws.{both, every_append}
 use Rattle.state.proofs.KeepsMoved.{moved_later, moved-well}
 use Rattle.state.proofs.LaterLaws.{Later, rows-later, pairs-later}
-use Rattle.state.proofs.PairLaws.{Within, ok-within, pair-start, pair-own}
+use Rattle.state.specs.Within.{Within}
+use Rattle.state.proofs.PairLaws.{ok-within, pair-start, pair-own}
 use Rattle.state.proofs.PendingLaws.{waits, pending-within, pending-append}
 use Rattle.state.proofs.WellLaws.{RowOk, ok-row, PhaseOk, ReplicaOk, Well}
 

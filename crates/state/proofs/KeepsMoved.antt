@@ -17,7 +17,7 @@ use Rattle.state.specs.WellFormed.{every, body_fits, message_fits, rising, row_f
 use Rattle.state.proofs.EveryLaws.{both, every_append}
 use Rattle.state.proofs.FlightLaws.{rising-append, rising-copies, length-copies}
 use Rattle.state.proofs.LaterLaws.{Later, Kept, messages-later, replica-later}
-use Rattle.state.proofs.PairLaws.{Within}
+use Rattle.state.specs.Within.{Within}
 use Rattle.state.proofs.WellLaws.{ok-message, ReplicaOk, Well}
 
 -- ---- what is sent

@@ -8,13 +8,9 @@ use Rattle.words.specs.RangeLaws.{and_left, and_right, within-least, within-most
 use Rattle.words.specs.Stamps.{stamp_of, start_pair, newer}
 use Rattle.words.proofs.StampLaws.{newer-one}
 use Rattle.state.specs.State.{State}
+use Rattle.state.specs.Within.{Within}
 use Rattle.state.specs.WellFormed.{pairs_fit}
 use Rattle.state.proofs.EveryLaws.{both}
-
--- from 1 to most
-pub record Within (x bound : ℕ) : Type 0 where
-  pub least : 1 ≤ x
-  pub most : x ≤ bound
 
 pub within-ok : (x most : ℕ) → within x most ≡ true → Within x most
 within-ok x most e = record { least = within-least x most e; most = within-most x most e }

@@ -5,7 +5,7 @@ use Rattle.words.specs.RangeLaws.{and_left}
 use Rattle.tables.specs.declared.Row.{Row}
 use Rattle.tables.specs.Tables.{empty_row}
 use Rattle.state.specs.WellFormed.{pending_of}
-use Rattle.state.proofs.PairLaws.{Within}
+use Rattle.state.specs.Within.{Within}
 
 -- a pending row of p
 abbrev pub waits : ℕ → Row → Bool

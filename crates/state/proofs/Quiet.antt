@@ -22,7 +22,8 @@ use Rattle.state.specs.State.{State, replica_of}
 use Rattle.state.specs.WellFormed.{pairs_fit}
 use Rattle.state.proofs.KeepsMoved.{SendsOk}
 use Rattle.state.proofs.LaterLaws.{Later, kept-rows, replica-later, pair-later, pairs-later}
-use Rattle.state.proofs.PairLaws.{Within, pair-newer, pairs_set}
+use Rattle.state.specs.Within.{Within}
+use Rattle.state.proofs.PairLaws.{pair-newer, pairs_set}
 use Rattle.state.proofs.WellLaws.{MessageOk, PhaseOk, ReplicaOk, Well, stored_at}
 
 -- one event later, and nothing else

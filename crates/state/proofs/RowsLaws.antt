@@ -17,7 +17,7 @@ use Rattle.state.specs.Step.{completed, queried_row, answered_rows, step}
 use Rattle.state.specs.Follows.{Follows, receiver_of, rule_at}
 use Rattle.state.specs.Follows.Follows.{reads, writes, delivers, crashes, loses}
 use Rattle.state.proofs.FollowsLaws.{accepted-follows}
-use Rattle.state.proofs.PairLaws.{Within}
+use Rattle.state.specs.Within.{Within}
 
 -- what is read of a row, and stays when a phase of its operation ends
 module _ {A : Type 0} (f : Row → A) (stays : (r : Row) (who : ℕ) → f (queried_row r who) ≡ f r)

@@ -26,7 +26,8 @@ use Rattle.state.specs.State.{State, fresh_replica, replica_of, row_of}
 use Rattle.state.specs.WellFormed.{every, counts_fit, body_fits, message_fits, rising, flight_fits, is_write, enough, query_fits, update_fits, row_fits, history_fits}
 use Rattle.state.specs.WellFormed.{pending_of, is_empty, is_only, phase_fits, pairs_fit, replica_fits, is_fresh, each_fits, replicas_fit, well_formed}
 use Rattle.state.proofs.EveryLaws.{both, every-at}
-use Rattle.state.proofs.PairLaws.{Within, within-ok, ok-within, pairs-at}
+use Rattle.state.specs.Within.{Within}
+use Rattle.state.proofs.PairLaws.{within-ok, ok-within, pairs-at}
 use Rattle.state.proofs.PendingLaws.{pending-within}
 
 -- ---- a message

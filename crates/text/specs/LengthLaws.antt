@@ -16,7 +16,7 @@ use Rattle.tables.specs.declared.Kind.TheVariants.{Read, Write}
 use Rattle.tables.specs.declared.Row.{Row}
 use Rattle.state.specs.State.{State, replica_of}
 use Rattle.state.specs.WellFormed.{every, row_fits, well_formed}
-use Rattle.state.proofs.PairLaws.{Within}
+use Rattle.state.specs.Within.{Within}
 use Rattle.state.proofs.WellLaws.{Well, RowOk, row_ok, well, stored_at}
 use Rattle.text.specs.DigitLaws.{decimal-most, decimal-short}
 use Rattle.text.specs.Printed.{signed, number, field, newline, word_run, word_op, word_proc, word_reg, word_sent, word_delivered}

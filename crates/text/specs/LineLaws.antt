@@ -11,7 +11,7 @@ use Rattle.tables.specs.declared.Kind.TheVariants.{Read, Write}
 use Rattle.tables.specs.declared.Row.{Row}
 use Rattle.state.specs.State.{fresh_replica, State, replica_of, view}
 use Rattle.state.specs.declared.Bench.{Bench}
-use Rattle.state.proofs.EveryLaws.{get_d_default}
+use Rattle.state.proofs.EveryLaws.{get_or-default}
 use Rattle.text.specs.Lines.{pair_text, is_blank, blank_text, row_head, row_rest, reg_text, reg_texts}
 use Rattle.text.specs.Lines.{proc_texts, store_texts, run_text, proc_text, count_text, tail_text}
 use Rattle.text.specs.Printed.{number, field, dash, answered, ending, row_line, reg_line, reg_lines, proc_line}
@@ -127,14 +127,14 @@ one_reg pairs p i =
 pub one-proc : (replicas : List Replica) (i : ℕ) (d : Replica) → i < length replicas
     → proc_texts replicas 1 i ++ proc_line (i + 1) (get_or replicas i d) ≡ proc_texts replicas 1 (i + 1)
 one-proc replicas i d within =
-    ap (λ (r : Replica). proc_texts replicas 1 i ++ proc_line (i + 1) r) (get_d_default replicas i d fresh_replica within)
+    ap (λ (r : Replica). proc_texts replicas 1 i ++ proc_line (i + 1) r) (get_or-default replicas i d fresh_replica within)
     ∙ ap (λ (y : ℕ). proc_texts replicas 1 i ++ proc_line (i + 1) (get_or replicas y fresh_replica)) (sym (before-one i))
     ∙ lines_more (λ p. proc_line p (get_or replicas (p - 1) fresh_replica)) (proc_texts replicas) (λ x. refl) (λ x k. refl) i
 
 pub one_store : (replicas : List Replica) (m i : ℕ) (d : Replica) → i < length replicas
     → store_texts replicas m 1 i ++ reg_lines (get_or replicas i d) (i + 1) 1 m ≡ store_texts replicas m 1 (i + 1)
 one_store replicas m i d within =
-    ap (λ (r : Replica). store_texts replicas m 1 i ++ reg_lines r (i + 1) 1 m) (get_d_default replicas i d fresh_replica within)
+    ap (λ (r : Replica). store_texts replicas m 1 i ++ reg_lines r (i + 1) 1 m) (get_or-default replicas i d fresh_replica within)
     ∙ ap (λ (y : ℕ). store_texts replicas m 1 i ++ reg_lines (get_or replicas y fresh_replica) (i + 1) 1 m) (sym (before-one i))
     ∙ lines_more (λ p. reg_lines (get_or replicas (p - 1) fresh_replica) p 1 m) (store_texts replicas m) (λ x. refl) (λ x k. refl) i
 

@@ -5,7 +5,7 @@ use Rattle.words.specs.Stamps.{start_pair}
 use Rattle.replica.specs.Handlers.{stored}
 use Rattle.tables.specs.declared.Row.{Row}
 use Rattle.tables.specs.Tables.{empty_row}
-use Rattle.state.proofs.PairLaws.{Within}
+use Rattle.state.specs.Within.{Within}
 use Rattle.state.specs.State.{State, fresh_replica, replica_of}
 use Rattle.state.proofs.WellLaws.{Well, row-at, stored_at}
 use Rattle.text.specs.LengthLaws.{fits-time}

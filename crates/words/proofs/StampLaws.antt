@@ -6,7 +6,7 @@ use Rattle.std.proofs.Math.Decide.{dec_lt}
 use Rattle.std.proofs.Math.Dec.{not_T}
 use Rattle.words.specs.declared.Stamp.{Stamp}
 use Rattle.words.specs.declared.Pair.{Pair}
-use Rattle.words.specs.Stamps.{start_stamp, below, newer}
+use Rattle.words.specs.Stamps.{start_stamp, below, newer, AtMost}
 
 -- ---- `below`, read as a fact and said from one
 
@@ -79,9 +79,6 @@ below_total a b = go (three_ways a.time.0 b.time.0) (three_ways a.process.0 b.pr
     go (inr (inr p)) q = inr (inr (below-time b a p))
 
 -- ---- `AtMost`: the order that goes with it
-
-abbrev pub AtMost : Stamp → Stamp → Type 0
-AtMost a b = T (not (below b a))
 
 either_way : (t : Bool) → T t ⊎ T (not t)
 either_way true = inl tt

@@ -1,7 +1,7 @@
 use Rattle.std.proofs.Common.{subst, arith}
 use borrow.Author.Rules.{rules}
 use Rattle.replica.specs.declared.Replica.{Replica}
-use Rattle.state.proofs.EveryLaws.{get_d_default}
+use Rattle.state.proofs.EveryLaws.{get_or-default}
 use Rattle.state.specs.State.{fresh_replica}
 use Rattle.text.specs.LineLaws.{one_store}
 use Rattle.text.specs.Short.{ShortPairs}
@@ -10,7 +10,7 @@ use Rattle.text.proofs.replicas.put_store_lines.Goals as goal
 
 pub put_reg_lines-next-requires : goal.put_reg_lines-next-requires
 put_reg_lines-next-requires c =
-    let same = get_d_default c.args.replicas c.loop-i.i fresh_replica _ (omega arith) in
+    let same = get_or-default c.args.replicas c.loop-i.i fresh_replica _ (omega arith) in
     (omega arith, (omega arith, subst (λ (r : Replica). ShortPairs c.args.m r.pairs) same (c.requires.1.1 c.loop-i.i c.loop-i-test.true)))
 
 pub loop-i-preserved : goal.loop-i-preserved
