@@ -71,12 +71,12 @@ module _ (m number : ℕ) (r : Replica) (rule : Answer) (is : m ≡ number) wher
 begin-inside : (fits crashed idle : Bool) → begin_refusal fits crashed idle ≡ 0 → fits ≡ true
 unfolding begin_refusal
 begin-inside true crashed idle e = refl
-begin-inside false crashed idle e = absurd (eqb-false 18 0 refl e)
+begin-inside false crashed idle e = absurd (eqb-false _ 0 refl e)
 
 down-inside : (number : ℕ) (fits crashed : Bool) → down_refusal number fits crashed ≡ 0 → fits ≡ true
 unfolding down_refusal
 down-inside number true crashed e = refl
-down-inside number false crashed e = absurd (eqb-false 18 0 refl e)
+down-inside number false crashed e = absurd (eqb-false _ 0 refl e)
 
 -- ---- the case that a test picks
 

@@ -1,6 +1,6 @@
 -- What an accepted event says: none of its checks held, and the state that it gives is the next one by the plain rules.
 use Rattle.std.specs.Prelude.{ℕ, ◌+◌, ◌-◌, ◌≤◌, ◌<◌, ◌≡◌, refl, Bool, true, false, not, cond, ◌||◌, [], ◌∷◌, ◌++◌, eqb, leb, ℤ, length}
-use Rattle.std.proofs.Common.{sym, ap, subst, ◌∙◌, arith, leb-false, ltb-false, eq-eqb}
+use Rattle.std.proofs.Common.{sym, ap, subst, ◌∙◌, arith, leb-false, ltb-false}
 use Rattle.std.proofs.Math.Seq.{take-length}
 use Rattle.std.proofs.lemmas.Bool.{eqb-false, not-false}
 use Rattle.words.specs.declared.Body.{Body}
@@ -64,7 +64,7 @@ received-answers s r message = go message.body
 -- ---- no check held
 
 outcome-next : (s : State) (number : ℕ) (next : State) → number ≡ 0 → (outcome s number next).state ≡ next
-outcome-next s number next e = rw (eq-eqb number 0 e) refl
+outcome-next s number next e = ap (λ (n : ℕ). (outcome s n next).state) e
 
 pub passed : (holds : Bool) (number later : ℕ) → eqb number 0 ≡ false → check holds number later ≡ 0 → (holds ≡ false) × (later ≡ 0)
 passed true number later n e = absurd (eqb-false number 0 n e)
