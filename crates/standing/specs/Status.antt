@@ -1,6 +1,8 @@
 -- The status of each process: document 01, "Status".
-use Rattle.std.specs.Prelude.{ℕ, zero, suc, ◌+◌, Bool, cond, not, List, [], ◌∷◌, map, leb, ltb, count_by, get_or, take, replicate}
+use Rattle.std.specs.Prelude.{ℕ, Result, Ok, Err, zero, suc, ◌+◌, Bool, cond, not, List, [], ◌∷◌, map, leb, ltb, count_by, get_or, take, replicate}
 use Rattle.std.specs.List.{range_with_len}
+use Rattle.words.specs.declared.refusal.Refusal.{Refusal}
+use Rattle.words.specs.Refusals.{number}
 use Rattle.words.specs.Quorum.{majority_of}
 use Rattle.replica.specs.declared.Replica.{Replica}
 use Rattle.replica.specs.Handlers.{is_idle}
@@ -44,6 +46,11 @@ statuses s = record { refusal = 0; of = standings s 1 7 }
 -- a refused status reads down everywhere
 unfoldable pub downs : ℕ → Statuses
 downs refusal = record { refusal = refusal; of = replicate 7 Down }
+
+-- what a result of the code stands for
+abbrev pub told : Result (List Status) Refusal → Statuses
+told (Ok of) = record { refusal = 0; of = of }
+told (Err e) = downs (number e)
 
 -- ---- the same of a bench, as the code finds it; `StatusLaws` says that it is the same
 

@@ -58,7 +58,6 @@ fn enough_up(b: &Bench) -> bool
 
 // Every process's status, for a bench whose tables were tested.
 pub fn standings_of(b: Bench) -> [Status; 7]
-    requires { length b.replicas ≡ 7 }
     ensures { result ≡ standings_of b }
 {
     let enough = enough_up(&b);
