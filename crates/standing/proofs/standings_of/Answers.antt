@@ -16,7 +16,7 @@ loop-at-preserved c =
     let here = standing_at c.args.b enough in
     let placed : c.standing_of.result ≡ here l.at =
     c.standing_of.ensures
-    ∙ ap (λ (r : Replica). standing_of r (ltb l.at c.args.b.n) enough) (get_or_default c.args.b.replicas l.at _ fresh_replica (omega (arith, c.requires, c.loop-at-test.true))) in
+    ∙ ap (λ (r : Replica). standing_of r (ltb l.at c.args.b.n) enough) (get_or_default c.args.b.replicas l.at _ fresh_replica (omega (arith, c.loop-at-test.true))) in
     record {
       long = search rules;
       filled = rw placed (fill_by_more here l.standings l.at Down (omega (arith, l.invariant.long, c.loop-at-test.true)) l.invariant.filled);
