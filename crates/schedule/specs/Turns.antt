@@ -3,15 +3,12 @@ use Rattle.std.specs.Prelude.{ℕ, ◌≡◌, Bool, true, false, List, eqb}
 use Rattle.words.specs.declared.Message.{Message}
 use Rattle.tables.specs.declared.Row.{Row}
 use Rattle.state.specs.declared.Bench.{Bench}
-use Rattle.state.specs.declared.Event.{Event}
-use Rattle.state.specs.declared.Event.TheVariants.{Deliver}
 use Rattle.state.specs.declared.Stepped.{Stepped}
 use Rattle.state.specs.State.{State, view, laid_messages, laid_rows}
 use Rattle.state.specs.Step.{step}
 use Rattle.state.specs.Tabled.{bench_of}
 use Rattle.format.specs.Parse.{Parse}
 use Rattle.format.specs.Parse.{Next, Refused, End}
-use Rattle.format.specs.Format.{parse_refusal}
 use Rattle.schedule.specs.declared.Turn.{Turn}
 use Rattle.schedule.specs.Run.{ran}
 

@@ -1,5 +1,5 @@
 -- An event is carried out; the end stops the run, and so does a refusal.
-use Rattle.std.proofs.Common.{◌≡◌, ◌∙◌, ap, sym}
+use Rattle.std.proofs.Common.{◌∙◌, ap, sym}
 use Rattle.format.specs.Parse.{Refused}
 use Rattle.schedule.proofs.TurnLaws.{carried, halted, halted-end}
 use Rattle.schedule.proofs.one_event.Goals as goal

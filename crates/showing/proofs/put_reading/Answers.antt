@@ -1,4 +1,4 @@
-use Rattle.std.proofs.Common.{◌≡◌, ◌∙◌, refl, sym, arith}
+use Rattle.std.proofs.Common.{◌≡◌, refl, sym, arith}
 use borrow.Author.Rules.{rules}
 use Rattle.format.specs.Format.{event_at}
 use Rattle.format.specs.Parse.{Next, End}

@@ -1,4 +1,5 @@
 use Rattle.std.proofs.Common.{sym, ◌∙◌, arith}
+use Rattle.words.proofs.RefusalLaws.{number-some}
 use Rattle.text.specs.WrittenLaws.{and_next, as_text}
 use Rattle.writing.proofs.RoundTripLaws.{opened}
 use Rattle.showing.proofs.ShowLaws.{exactly, shown-refused, shown_read}
@@ -6,7 +7,7 @@ use Rattle.showing.proofs.show_into.Goals as goal
 
 pub returns-in-Err : goal.returns-in-Err
 returns-in-Err c =
-    as_text (shown-refused c.args.bytes.now c.number.result (c.number.ensures ∙ c.in-Err.ensures) (λ z. absurd (?))) (omega arith) c.put_refusal.ensures
+    as_text (shown-refused c.args.bytes.now c.number.result (c.number.ensures ∙ c.in-Err.ensures) (λ z. number-some c.in-Err.refusal (sym c.number.ensures ∙ z))) (omega arith) c.put_refusal.ensures
 
 pub bounds-bytes-5 : goal.bounds-bytes-5
 bounds-bytes-5 c = omega (arith, (opened c.args.bytes.now (sym c.in-Ok.ensures)).long)
