@@ -2,7 +2,7 @@
 #![tactic(auto)]
 
 ghost use Rattle.std.specs.Prelude.{◌≡◌, cond, length, replicate};
-ghost use Rattle.words.specs.Refusals.{refusal_of};
+ghost use Rattle.words.specs.Refusals.{refusal_number};
 ghost use Rattle.tables.specs.Tables.{empty_message, empty_row};
 ghost use Rattle.state.specs.State.{view};
 ghost use Rattle.state.specs.Tabled.{tabled};
@@ -26,7 +26,7 @@ pub mod fresh;
 
 // The first check that refuses a start.
 fn check_start(n: u8, m: u8, messages: usize, rows: usize) -> Result<(), Refusal>
-    ensures { refusal_of result ≡ start_refusal n m messages rows }
+    ensures { refusal_number result ≡ start_refusal n m messages rows }
 {
     if (messages != MESSAGE_PLACES) | (rows != ROW_PLACES) {
         return Err(Refusal::NotFormed);

@@ -24,7 +24,7 @@ number Full = 17
 number NotFormed = 18
 number ShortOutput = 19
 
--- the number that a result stands for
-abbrev pub refusal_of : {A : Type 0} → Result A Refusal → ℕ
-refusal_of (Ok x) = 0
-refusal_of (Err e) = number e
+-- what a check gives: the number of its refusal, 0 where it passes
+abbrev pub refusal_number : {A : Type 0} → Result A Refusal → ℕ
+refusal_number (Ok a) = 0
+refusal_number (Err e) = number e
