@@ -1,11 +1,9 @@
 -- The parts of one step of the bench, as functions of the bench, the event and what the two tables hold: what is gathered, the work that follows
 -- from it, and the tables once it is carried out.
-use Rattle.std.specs.Prelude.{ℕ, ◌+◌, ◌-◌, ◌≤◌, ◌<◌, ◌≡◌, Bool, true, false, cond, ◌&&◌, ◌||◌, List, ◌∷◌, ◌++◌, eqb, length, get_or, set, take, drop}
+use Rattle.std.specs.Prelude.{ℕ, ◌+◌, ◌-◌, ◌≤◌, ◌<◌, ◌≡◌, Bool, true, false, cond, ◌&&◌, ◌||◌, List, ◌∷◌, ◌++◌, eqb, length, get_or, set, take, drop, Option, Some, None}
 use Rattle.words.specs.declared.Message.{Message}
 use Rattle.replica.specs.declared.Replica.{Replica}
 use Rattle.replica.specs.Numbers.{pointed}
-use Rattle.tables.specs.declared.Found.{Found}
-use Rattle.tables.specs.declared.Found.TheVariants.{At, Missing}
 use Rattle.tables.specs.declared.Row.{Row}
 use Rattle.tables.specs.Tables.{empty_message, empty_row, seek, removed, copies, laid_at}
 use Rattle.state.specs.declared.Bench.{Bench}
@@ -33,11 +31,11 @@ wanted_of (Crash p) = 0
 wanted_of (Lose k) = k
 
 -- the message at the place that was found, the empty one where none was
-unfoldable pub message_found : List Message → Found → Message
-message_found messages (At i) = get_or messages i empty_message
-message_found messages Missing = empty_message
+unfoldable pub message_found : List Message → Option ℕ → Message
+message_found messages (Some i) = get_or messages i empty_message
+message_found messages None = empty_message
 
-abbrev pub sought_of : Found → Message → Sought
+abbrev pub sought_of : Option ℕ → Message → Sought
 sought_of found message = record { found = found; message = message }
 
 -- the message with the number k among the first n, and its place

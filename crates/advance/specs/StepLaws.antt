@@ -1,7 +1,7 @@
 -- Event by event: the work of an event is what `step` says.
 use Prim.Native.Nat.{ℕ, zero, suc, ◌+◌, ◌-◌, ◌<◌, ◌≤◌}
 use Rattle.std.proofs.Common.{arith, sym, ap, ◌∙◌, length-append, leb-false, ltb-false}
-use Rattle.std.specs.Prelude.{◌≡◌, Bool, false, not, cond, ◌||◌, List, [], ◌∷◌, ◌++◌, leb, ℤ, set, replicate}
+use Rattle.std.specs.Prelude.{◌≡◌, Bool, false, not, cond, ◌||◌, List, [], ◌∷◌, ◌++◌, leb, ℤ, set, replicate, Option, Some, None}
 use Rattle.std.proofs.Math.Path.{refl, subst}
 use Rattle.std.proofs.Math.Bool.{true}
 use Rattle.std.proofs.Math.ListN.{length, get_or}
@@ -21,8 +21,6 @@ use Rattle.replica.specs.declared.Sends.{Sends}
 use Rattle.replica.specs.declared.Sends.TheVariants.{Nothing}
 use Rattle.replica.specs.Handlers.{is_idle, read_begun, write_begun, crashed}
 use Rattle.replica.specs.Numbers.{sent_by, pointed}
-use Rattle.tables.specs.declared.Found.{Found}
-use Rattle.tables.specs.declared.Found.TheVariants.{At as Place, Missing}
 use Rattle.tables.specs.declared.Row.{Row}
 use Rattle.tables.specs.Tables.{empty_message, empty_row, seek, removed}
 use Rattle.tables.specs.TableLaws.{seek-at}
@@ -63,7 +61,7 @@ next_row s row l = ap (λ (i : ℕ). set (laid_rows s) i row) (written (length s
 
 -- ---- what is gathered of a state
 
-abbrev gathered : State → Event → Found → Known
+abbrev gathered : State → Event → Option ℕ → Known
 gathered s event f =
     record {
       found = f;
@@ -156,7 +154,7 @@ module _ (s : State) (g : Good s) where
   unfolding work_of whose_of plan_of crash_plan step step_crash
   crash-done p k = silent-done p.0 (crash_refusal s p.0 (crashed (replica_of s p.0)).refusal) (replica_of s p.0) (crashed (replica_of s p.0)) (crash-silent (replica_of s p.0))
 
-  found_within : (k i : ℕ) → Place i ≡ seek k 0 s.flight → i < length s.flight
+  found_within : (k i : ℕ) → Some i ≡ seek k 0 s.flight → i < length s.flight
   found_within k i e = (seek-at k (length s.flight) i s.flight (e ∙ sym (ap (seek k 0) (take-length s.flight)))).0
 
   deliver-room : (r : Replica) (answer : Answer) → check (full s) 17 (deliver_refusal s r answer) ≡ 0 → length s.flight - 1 + sent_by s.n answer.sends ≤ 512
@@ -178,15 +176,15 @@ module _ (s : State) (g : Good s) where
       (λ z. taken-done s g p i l answer (number_by answer.ended (pointed r.phase)) (row_by answer.ended (get_or s.rows (pointed r.phase - 1) empty_row)) (answered_rows s.rows (pointed r.phase) answer.ended)
       mild (deliver-room r answer z) (rows-done s g answer.ended r.phase waited points) (answered-length s.rows (pointed r.phase) answer.ended)))
 
-  deliver-done : (k : ℕ) (f : Found) → f ≡ seek k 0 s.flight → Done (work_of (bench_of s) (Deliver k) (gathered s (Deliver k) f)) s (cond (full s) (outcome s 17 s) (deliver_at s f))
+  deliver-done : (k : ℕ) (f : Option ℕ) → f ≡ seek k 0 s.flight → Done (work_of (bench_of s) (Deliver k) (gathered s (Deliver k) f)) s (cond (full s) (outcome s 17 s) (deliver_at s f))
   unfolding work_of whose_of plan_of deliver_plan message_found
-  deliver-done k Missing e = missing-done s g (record { rows = 0; delivered = 1; lost = 0; takes = true }) empty_message.to.0 (replica_of s empty_message.to.0) (full s)
-  deliver-done k (Place i) e =
+  deliver-done k None e = missing-done s g (record { rows = 0; delivered = 1; lost = 0; takes = true }) empty_message.to.0 (replica_of s empty_message.to.0) (full s)
+  deliver-done k (Some i) e =
       let m : Message = get_or s.flight i empty_message in
       let r : Replica = replica_of s m.to.0 in
       let l : i < length s.flight = found_within k i e in
       let asked : ℕ = register_asked r.phase (get_or s.rows (pointed r.phase - 1) empty_row) in
-      subst (λ (a : Answer). Done (work_of (bench_of s) (Deliver k) (gathered s (Deliver k) (Place i))) s (cond (full s) (outcome s 17 s) (outcome s (deliver_refusal s r a) (moved s m.to.0 a (removed i s.flight) (s.delivered + 1) (answered_rows s.rows (pointed r.phase) a.ended)))))
+      subst (λ (a : Answer). Done (work_of (bench_of s) (Deliver k) (gathered s (Deliver k) (Some i))) s (cond (full s) (outcome s 17 s) (outcome s (deliver_refusal s r a) (moved s m.to.0 a (removed i s.flight) (s.delivered + 1) (answered_rows s.rows (pointed r.phase) a.ended)))))
       (answer-is s r m)
       (receive-done m.to.0 i l r (answer_to s.n asked r m) (answer-right s.n asked r m (g.sender i l)).0 (answer-right s.n asked r m (g.sender i l)).1 (g.points i l))
 
@@ -196,10 +194,10 @@ module _ (s : State) (g : Good s) where
   lose-by p i r same l false true = refusal-done s g (record { rows = 0; delivered = 0; lost = 1; takes = true }) p i 14 r refl
   lose-by p i r same l false false = lost-done s g p i r same l
 
-  lose-done : (k : ℕ) (f : Found) → f ≡ seek k 0 s.flight → Done (work_of (bench_of s) (Lose k) (gathered s (Lose k) f)) s (cond (full s) (outcome s 17 s) (lose_at s f))
+  lose-done : (k : ℕ) (f : Option ℕ) → f ≡ seek k 0 s.flight → Done (work_of (bench_of s) (Lose k) (gathered s (Lose k) f)) s (cond (full s) (outcome s 17 s) (lose_at s f))
   unfolding work_of whose_of plan_of lose_plan message_found
-  lose-done k Missing e = missing-done s g (record { rows = 0; delivered = 0; lost = 1; takes = true }) empty_message.to.0 (replica_of s empty_message.to.0) (full s)
-  lose-done k (Place i) e =
+  lose-done k None e = missing-done s g (record { rows = 0; delivered = 0; lost = 1; takes = true }) empty_message.to.0 (replica_of s empty_message.to.0) (full s)
+  lose-done k (Some i) e =
       let m : Message = get_or s.flight i empty_message in
       lose-by m.to.0 i (replica_of s m.to.0) (get_or-again s.replicas (m.to.0 - 1) fresh_replica) (found_within k i e) (full s) (not ((replica_of s m.from.0).crashed || (replica_of s m.to.0).crashed))
 
@@ -213,10 +211,10 @@ module _ (s : State) (g : Good s) where
 
 -- ---- what is gathered from the tables is what the state has
 
-found-laid : (s : State) (f : Found) → message_found (laid_messages s) f ≡ message_found s.flight f
+found-laid : (s : State) (f : Option ℕ) → message_found (laid_messages s) f ≡ message_found s.flight f
 unfolding message_found
-found-laid s (Place i) = get_or-laid (512 - length s.flight) empty_message s.flight i
-found-laid s Missing = refl
+found-laid s (Some i) = get_or-laid (512 - length s.flight) empty_message s.flight i
+found-laid s None = refl
 
 gathered-is : (s : State) (event : Event) → known_of (asked_in (bench_of s) event (laid_messages s)) (get_or (laid_rows s) (asked_in (bench_of s) event (laid_messages s)).at empty_row) ≡ gathered s event (seek (wanted_of event) 0 s.flight)
 unfolding known_of asked_for whose_of

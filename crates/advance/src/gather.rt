@@ -6,7 +6,7 @@ ghost use Rattle.advance.specs.Parts.{wanted_of, sought_of, process_of, replica_
 use crate::{Asked, Known, Sought, Whose};
 use replica::{Phase, Replica, phases};
 use state::{Bench, Event};
-use tables::{Found, Row};
+use tables::Row;
 use words::{Message, Pair, Pid, Rid, Stamp, Time};
 
 // The number of the message that is delivered or lost; 0 for the other events.
@@ -34,7 +34,7 @@ pub fn row_place(a: Asked) -> usize
     a.at
 }
 
-pub fn sought_of(found: Found, message: Message) -> Sought
+pub fn sought_of(found: Option<usize>, message: Message) -> Sought
     ensures { result ≡ sought_of found message }
 {
     Sought {

@@ -9,7 +9,7 @@ ghost use Rattle.advance.specs.Advanced.{Advanced};
 
 use replica::Replica;
 use state::{Bench, Event, Stepped};
-use tables::{Found, Row};
+use tables::Row;
 use words::Message;
 
 mod gather;
@@ -18,7 +18,7 @@ mod plans;
 // What was found among the messages in flight: the place of the wanted number, and its message, the empty one where there is none.
 #[derive(Clone, Copy)]
 pub struct Sought {
-    pub found: Found,
+    pub found: Option<usize>,
     pub message: Message,
 }
 
@@ -34,7 +34,7 @@ pub struct Whose {
 // What was found, and the place of the row that the replica concerned points to.
 #[derive(Clone, Copy)]
 pub struct Asked {
-    pub found: Found,
+    pub found: Option<usize>,
     pub message: Message,
     pub at: usize,
 }
@@ -42,7 +42,7 @@ pub struct Asked {
 // What was found, and that row.
 #[derive(Clone, Copy)]
 pub struct Known {
-    pub found: Found,
+    pub found: Option<usize>,
     pub message: Message,
     pub row: Row,
 }
@@ -73,10 +73,10 @@ pub struct Work {
 
 // The message at the place that was found, the empty one where none was.
 #[tactic(auto, unfolding(crate::specs::Parts::message_found))]
-fn message_found(t: &[Message], found: Found) -> Message
+fn message_found(t: &[Message], found: Option<usize>) -> Message
     ensures { result ≡ message_found t.now found }
 {
-    let Found::At(place) = found else {
+    let Some(place) = found else {
         return tables::empty_message();
     };
     tables::message_at(t, place)

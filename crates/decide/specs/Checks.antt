@@ -1,7 +1,6 @@
 -- The checks of an event, over the counts that they look at: document 01's order, the first that holds is given.
-use Rattle.std.specs.Prelude.{ℕ, ◌+◌, ◌-◌, Bool, not, leb}
+use Rattle.std.specs.Prelude.{ℕ, ◌+◌, ◌-◌, Bool, not, leb, None}
 use Rattle.words.specs.Ranges.{within}
-use Rattle.tables.specs.declared.Found.TheVariants.{Missing}
 use Rattle.state.specs.Step.{check, no_room, found_refusal}
 use Rattle.decide.specs.declared.Counters.{Counters}
 
@@ -20,7 +19,7 @@ invoke_checks c p x crashed idle later =
 
 -- no such message in flight: 17, else 12
 abbrev pub missing_checks : Counters → ℕ
-missing_checks c = check (full c) 17 (found_refusal Missing)
+missing_checks c = check (full c) 17 (found_refusal None)
 
 abbrev pub deliver_checks : Counters → Bool → ℕ → ℕ → ℕ
 deliver_checks c crashed count later = check (full c) 17 (check crashed 13 (check (no_room (c.flight - 1 + count)) 15 later))

@@ -1,6 +1,6 @@
 -- The plan of an event: what is to be carried out on the tables, from the counts, the one replica concerned, and what was gathered. `Steps` says
 -- that it is what `step` says.
-use Rattle.std.specs.Prelude.{ℕ, ◌+◌, Bool, cond, eqb, ℤ}
+use Rattle.std.specs.Prelude.{ℕ, ◌+◌, Bool, cond, eqb, ℤ, Option, Some, None}
 use Rattle.words.specs.declared.Body.{Body}
 use Rattle.words.specs.declared.Body.TheVariants.{Query, Response, Update, Ack}
 use Rattle.words.specs.declared.Message.{Message}
@@ -14,8 +14,6 @@ use Rattle.replica.specs.declared.Sends.{Sends}
 use Rattle.replica.specs.declared.Sends.TheVariants.{Nothing, Reply, Broadcast}
 use Rattle.replica.specs.Handlers.{is_idle, read_begun, write_begun, query_received, update_received, response_received, ack_received, crashed}
 use Rattle.replica.specs.Numbers.{sent_by, pointed}
-use Rattle.tables.specs.declared.Found.{Found}
-use Rattle.tables.specs.declared.Found.TheVariants.{At as Place, Missing}
 use Rattle.tables.specs.declared.Row.{Row}
 use Rattle.tables.specs.Tables.{empty_message, empty_row}
 use Rattle.state.specs.declared.Event.{Event}
@@ -92,9 +90,9 @@ row_by Pending row = empty_row
 row_by (Queried who) row = queried_row row who
 row_by (At time pair who) row = completed row time pair who
 
-unfoldable pub deliver_plan : Counters → Found → Message → Replica → Row → Plan
-deliver_plan c Missing message r row = refused_plan (missing_checks c) r
-deliver_plan c (Place i) message r row =
+unfoldable pub deliver_plan : Counters → Option ℕ → Message → Replica → Row → Plan
+deliver_plan c None message r row = refused_plan (missing_checks c) r
+deliver_plan c (Some i) message r row =
     let answer = answer_to c.n (register_asked r.phase row) r message in
     settled (deliver_checks c r.crashed (sent_by c.n answer.sends) answer.refusal) r
     (accepted_plan c message.to.0 i answer (number_by answer.ended (pointed r.phase)) (row_by answer.ended row))
@@ -104,12 +102,12 @@ crash_plan c p r =
     let answer = crashed r in
     settled (crash_checks c p r.crashed answer.refusal) r (accepted_plan c p 0 answer 0 empty_row)
 
-unfoldable pub lose_plan : Counters → Found → Bool → Replica → Plan
-lose_plan c Missing down r = refused_plan (missing_checks c) r
-lose_plan c (Place i) down r = quiet_plan (lose_checks c down) i r
+unfoldable pub lose_plan : Counters → Option ℕ → Bool → Replica → Plan
+lose_plan c None down r = refused_plan (missing_checks c) r
+lose_plan c (Some i) down r = quiet_plan (lose_checks c down) i r
 
 -- an event, with the message and the row that were gathered for it, and whether one of the message's ends has crashed
-unfoldable pub plan_of : Counters → Event → Found → Message → Bool → Replica → Row → Plan
+unfoldable pub plan_of : Counters → Event → Option ℕ → Message → Bool → Replica → Row → Plan
 plan_of c (Read p x) found message down r row = read_plan c p.0 x r
 plan_of c (Write p x value) found message down r row = write_plan c p.0 x value r
 plan_of c (Deliver k) found message down r row = deliver_plan c found message r row

@@ -6,7 +6,7 @@ use crate::deliver::answer_to;
 use crate::{Counters, Plan, checks, rows, sends};
 use replica::{Answer, Replica, phases};
 use state::Event;
-use tables::{Found, Row};
+use tables::Row;
 use words::{Message, Pid};
 
 // The place of a plan that takes no message off.
@@ -103,11 +103,11 @@ fn write_plan(c: Counters, p: u8, x: u8, value: i64, r: Replica) -> Plan
 }
 
 #[tactic(auto, unfolding(crate::specs::Plan::deliver_plan))]
-fn deliver_plan(c: Counters, found: Found, message: Message, r: Replica, row: Row) -> Plan
+fn deliver_plan(c: Counters, found: Option<usize>, message: Message, r: Replica, row: Row) -> Plan
     requires { c.sent ≤ 84000 }
     ensures { result ≡ deliver_plan c found message r row }
 {
-    let Found::At(place) = found else {
+    let Some(place) = found else {
         return refused_plan(checks::missing_checks(c), r);
     };
     let phase = r.phase;
@@ -136,10 +136,10 @@ fn crash_plan(c: Counters, p: u8, r: Replica) -> Plan
 
 // A lost message changes no replica: the plan only says whether it may be lost, and from which place.
 #[tactic(auto, unfolding(crate::specs::Plan::lose_plan))]
-fn lose_plan(c: Counters, found: Found, down: bool, r: Replica) -> Plan
+fn lose_plan(c: Counters, found: Option<usize>, down: bool, r: Replica) -> Plan
     ensures { result ≡ lose_plan c found down r }
 {
-    let Found::At(place) = found else {
+    let Some(place) = found else {
         return refused_plan(checks::missing_checks(c), r);
     };
     quiet_plan(checks::lose_checks(c, down), place, r)
@@ -149,7 +149,7 @@ fn lose_plan(c: Counters, found: Found, down: bool, r: Replica) -> Plan
 pub fn plan_of(
     c: Counters,
     event: Event,
-    found: Found,
+    found: Option<usize>,
     message: Message,
     down: bool,
     r: Replica,

@@ -1,5 +1,5 @@
 -- What every move makes of the exchanges.
-use Rattle.std.specs.Prelude.{ℕ, ◌+◌, ◌<◌, ◌≡◌, refl, ◌≢◌, Bool, true, false, cond, ◌||◌, List, [], ◌∷◌, length}
+use Rattle.std.specs.Prelude.{ℕ, ◌+◌, ◌<◌, ◌≡◌, refl, ◌≢◌, Bool, true, false, cond, ◌||◌, List, [], ◌∷◌, length, Some}
 use Rattle.std.proofs.Common.{sym, ap, subst, ◌∙◌, arith}
 use Rattle.std.proofs.Math.Bool.{or_comm}
 use Rattle.std.proofs.Math.Decide.{ℕ_discrete}
@@ -14,7 +14,6 @@ use Rattle.replica.specs.declared.Phase.TheVariants.{Idle}
 use Rattle.replica.specs.declared.Sends.{Sends}
 use Rattle.replica.specs.declared.Sends.TheVariants.{Nothing}
 use Rattle.replica.specs.Handlers.{letter}
-use Rattle.tables.specs.declared.Found.TheVariants.{At}
 use Rattle.tables.specs.declared.Row.{Row}
 use Rattle.tables.specs.Tables.{empty_message, seek, removed}
 use Rattle.state.specs.declared.Event.{Event}
@@ -155,7 +154,7 @@ module _ (s : State) (w : Placed s) (n : Numbered s) (k i count : ℕ) (d : Deli
 
 -- ---- a message is lost: one end of its exchange is down
 
-lost-after : (s : State) → Placed s → Numbered s → (k i : ℕ) → seek k 0 s.flight ≡ At i
+lost-after : (s : State) → Placed s → Numbered s → (k i : ℕ) → seek k 0 s.flight ≡ Some i
     → ((replica_of s (message_at s i).from.0).crashed || (recipient_at s i).crashed) ≡ true → After s (without_message s i)
 lost-after s w n k i found down =
     record {

@@ -1,5 +1,5 @@
 -- The step without the limit: its accepted events are the moves, and it reaches what `step` reaches.
-use Rattle.std.specs.Prelude.{ℕ, ◌+◌, ◌-◌, ◌≤◌, ◌≡◌, refl, true, not, leb, length}
+use Rattle.std.specs.Prelude.{ℕ, ◌+◌, ◌-◌, ◌≤◌, ◌≡◌, refl, true, not, leb, length, Option, Some, None}
 use Rattle.std.proofs.Common.{sym, ap, subst, ◌∙◌, arith, leb-false, ltb-false, le-ltb}
 use Rattle.std.proofs.lemmas.Bool.{not-false, lt-leb}
 use Rattle.words.specs.Ranges.{within}
@@ -10,8 +10,6 @@ use Rattle.replica.specs.declared.Phase.TheVariants.{Idle, Updating}
 use Rattle.replica.specs.declared.Sends.TheVariants.{Nothing}
 use Rattle.replica.specs.Handlers.{is_idle, read_rule, write_rule, crash_rule}
 use Rattle.replica.specs.Numbers.{sent_by, pointed}
-use Rattle.tables.specs.declared.Found.{Found}
-use Rattle.tables.specs.declared.Found.TheVariants.{At, Missing}
 use Rattle.tables.specs.Tables.{seek, removed}
 use Rattle.state.specs.declared.Event.{Event}
 use Rattle.state.specs.declared.Event.TheVariants.{Read, Write, Deliver, Crash, Lose}
@@ -72,9 +70,9 @@ free-moves s (Read p x) z = moves-on s (Read p x) _ _ z (reads p x (free-begins 
 free-moves s (Write p x value) z = moves-on s (Write p x value) _ _ z (writes p x value (free-begins s p.0 x z))
 free-moves s (Deliver k) z = by (seek k 0 s.flight) refl z
   where
-    by : (found : Found) → seek k 0 s.flight ≡ found → (free_deliver s found).refusal ≡ 0 → Move s (Deliver k) (free_deliver s found).state
-    by Missing f z = absurd (omega arith)
-    by (At i) f z =
+    by : (found : Option ℕ) → seek k 0 s.flight ≡ found → (free_deliver s found).refusal ≡ 0 → Move s (Deliver k) (free_deliver s found).state
+    by None f z = absurd (omega arith)
+    by (Some i) f z =
         let e₁ = passed (recipient_at s i).crashed 13 _ refl z in
         let e₂ = passed (no_room (length s.flight - 1 + sent_by s.n (answer_at s i).sends)) 15 _ refl e₁.1 in
         moves-on s (Deliver k) _ _ z (delivery-moves s k i f e₁.0 (ltb-false 512 _ e₂.0))
@@ -84,9 +82,9 @@ free-moves s (Crash p) z =
     moves-on s (Crash p) _ _ z (crashes p (within-ok p.0 s.n (not-false _ e₁.0)) e₂.0)
 free-moves s (Lose k) z = by (seek k 0 s.flight) refl z
   where
-    by : (found : Found) → seek k 0 s.flight ≡ found → (lose_at s found).refusal ≡ 0 → Move s (Lose k) (lose_at s found).state
-    by Missing f z = absurd (omega arith)
-    by (At i) f z = moves-on s (Lose k) _ _ z (loses k i f (not-false _ (passed _ 14 0 refl z).0))
+    by : (found : Option ℕ) → seek k 0 s.flight ≡ found → (lose_at s found).refusal ≡ 0 → Move s (Lose k) (lose_at s found).state
+    by None f z = absurd (omega arith)
+    by (Some i) f z = moves-on s (Lose k) _ _ z (loses k i f (not-false _ (passed _ 14 0 refl z).0))
 
 -- the message at place i was delivered with this answer
 abbrev pub taken_by : State → ℕ → Answer → State

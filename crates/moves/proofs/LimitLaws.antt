@@ -1,5 +1,5 @@
 -- The limit of 12,000 events: of a well-formed state below it, `step` is the step without it. (The rows are to fit their table of 1,024.)
-use Rattle.std.specs.Prelude.{ℕ, ◌+◌, ◌-◌, ◌≤◌, ◌<◌, ◌≡◌, Bool, true, false, not, [], ◌∷◌, ◌++◌, leb, ℤ, length}
+use Rattle.std.specs.Prelude.{ℕ, ◌+◌, ◌-◌, ◌≤◌, ◌<◌, ◌≡◌, Bool, true, false, not, [], ◌∷◌, ◌++◌, leb, ℤ, length, Option, Some, None}
 use Rattle.std.proofs.Math.Path.{refl, ap}
 use Rattle.std.proofs.Common.{sym, ◌∙◌, leb-false, ltb-false, ne_eqb}
 use Rattle.std.proofs.Math.Decide.{ℕ_discrete}
@@ -9,8 +9,6 @@ use Rattle.words.specs.Ranges.{within}
 use Rattle.replica.specs.declared.Answer.{Answer}
 use Rattle.replica.specs.Handlers.{is_idle, read_rule, write_rule, crash_rule}
 use Rattle.replica.specs.Numbers.{sent_by}
-use Rattle.tables.specs.declared.Found.{Found}
-use Rattle.tables.specs.declared.Found.TheVariants.{At, Missing}
 use Rattle.tables.specs.Tables.{seek}
 use Rattle.tables.specs.TableLaws.{seek-at}
 use Rattle.state.specs.declared.Event.{Event}
@@ -101,9 +99,9 @@ module _ (s : State) (w : Well s) (short : length s.rows ≤ 1024) (below : s.ac
       let e₂ = passed (replica_of s p).crashed 10 _ refl e₁.1 in
       ap (λ (a : Answer). moved s p a s.flight s.delivered s.rows) (crash-plain s w short p (within-ok p s.n (not-false _ e₁.0)) e₂.0)
 
-  deliver-agrees : (k : ℕ) (found : Found) → seek k 0 s.flight ≡ found → deliver_at s found ≡ free_deliver s found
-  deliver-agrees k Missing f = refl
-  deliver-agrees k (At i) f =
+  deliver-agrees : (k : ℕ) (found : Option ℕ) → seek k 0 s.flight ≡ found → deliver_at s found ≡ free_deliver s found
+  deliver-agrees k None f = refl
+  deliver-agrees k (Some i) f =
       same_outcome s _ _ _ _
       (checked (recipient_at s i).crashed 13 _ _ λ up.
       ap (λ (a : Answer). check (no_room (length s.flight - 1 + sent_by s.n a.sends)) 15 a.refusal) (plainly up)

@@ -1,5 +1,5 @@
 -- Every accepted event is a move.
-use Rattle.std.specs.Prelude.{ℕ, ◌+◌, ◌-◌, ◌≤◌, ◌<◌, ◌≡◌, refl, true, false, length}
+use Rattle.std.specs.Prelude.{ℕ, ◌+◌, ◌-◌, ◌≤◌, ◌<◌, ◌≡◌, refl, true, false, length, Some}
 use Rattle.std.proofs.Common.{sym, ap, subst, ◌∙◌, arith}
 use Rattle.std.proofs.lemmas.Bool.{false≢true}
 use Rattle.std.proofs.Math.Decide.{ℕ_discrete, dec_le}
@@ -16,7 +16,6 @@ use Rattle.replica.specs.declared.Phase.TheVariants.{Idle, Querying, Updating}
 use Rattle.replica.specs.declared.Sends.TheVariants.{Nothing}
 use Rattle.replica.specs.Handlers.{accepted, discarded, is_idle, read_rule, write_rule, crash_rule}
 use Rattle.replica.specs.Numbers.{sent_by, pointed}
-use Rattle.tables.specs.declared.Found.TheVariants.{At}
 use Rattle.tables.specs.Tables.{seek, removed}
 use Rattle.state.specs.declared.Event.{Event}
 use Rattle.state.specs.declared.Event.TheVariants.{Read, Write, Deliver, Crash, Lose}
@@ -34,7 +33,7 @@ use Rattle.moves.proofs.AnswerLaws.{counts-answer, chooses-answer, gathers-answe
 
 -- ---- a delivery, by the message's body, the phase, the number and the count
 
-module _ (s : State) (k i : ℕ) (found : seek k 0 s.flight ≡ At i) (up : (recipient_at s i).crashed ≡ false) where
+module _ (s : State) (k i : ℕ) (found : seek k 0 s.flight ≡ Some i) (up : (recipient_at s i).crashed ≡ false) where
   abbrev Taken : Answer → Type 0
   Taken answer =
       length s.flight - 1 + sent_by s.n answer.sends ≤ 512

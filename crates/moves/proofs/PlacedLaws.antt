@@ -1,5 +1,5 @@
 -- Every move keeps what is placed, so every state reached has it, the limit of events set aside or not; and every well-formed state has it.
-use Rattle.std.specs.Prelude.{ℕ, zero, suc, ◌+◌, ◌-◌, ◌≤◌, ◌<◌, ◌≡◌, refl, true, List, [], ◌∷◌, length}
+use Rattle.std.specs.Prelude.{ℕ, zero, suc, ◌+◌, ◌-◌, ◌≤◌, ◌<◌, ◌≡◌, refl, true, List, [], ◌∷◌, length, Some}
 use Rattle.std.proofs.Common.{sym, ap, subst, ◌∙◌, arith, length-set}
 use Rattle.std.proofs.Math.Decide.{ℕ_discrete}
 use Rattle.std.proofs.Math.Seq.{take-length}
@@ -18,7 +18,6 @@ use Rattle.replica.specs.declared.Replica.{Replica}
 use Rattle.replica.specs.declared.Sends.{Sends}
 use Rattle.replica.specs.declared.Sends.TheVariants.{Nothing, Reply, Broadcast}
 use Rattle.replica.specs.Handlers.{accepted, stored}
-use Rattle.tables.specs.declared.Found.TheVariants.{At}
 use Rattle.tables.specs.declared.Row.{Row}
 use Rattle.tables.specs.Tables.{empty_message, seek, removed, copies, following}
 use Rattle.tables.specs.TableLaws.{seek-at}
@@ -42,10 +41,10 @@ use Rattle.moves.specs.Placed.{Ends, SetFits, Placed}
 
 -- ---- a message that was found
 
-pub found_inside : (s : State) (k i : ℕ) → seek k 0 s.flight ≡ At i → i < length s.flight
+pub found_inside : (s : State) (k i : ℕ) → seek k 0 s.flight ≡ Some i → i < length s.flight
 found_inside s k i f = (seek-at k (length s.flight) i s.flight (sym (ap (seek k 0) (take-length s.flight) ∙ f))).0
 
-pub ends_at : (s : State) → Placed s → (k i : ℕ) → seek k 0 s.flight ≡ At i → Ends s.n (message_at s i)
+pub ends_at : (s : State) → Placed s → (k i : ℕ) → seek k 0 s.flight ≡ Some i → Ends s.n (message_at s i)
 ends_at s w k i f = all-at (Ends s.n) s.flight empty_message i (found_inside s k i f) w.messages
 
 -- ---- what is sent

@@ -1,12 +1,10 @@
 -- One event, the limit of 12,000 set aside: the checks of document 01 but 17, and the plain rules, without the guards by which a handler keeps to the ranges that
 -- follow from the limit.
-use Rattle.std.specs.Prelude.{ℕ, ◌+◌, ◌-◌, ◌≡◌, true, not, leb, length}
+use Rattle.std.specs.Prelude.{ℕ, ◌+◌, ◌-◌, ◌≡◌, true, not, leb, length, Option, Some, None}
 use Rattle.words.specs.Limits.{most_rows}
 use Rattle.words.specs.Ranges.{within}
 use Rattle.replica.specs.Handlers.{is_idle}
 use Rattle.replica.specs.Numbers.{sent_by}
-use Rattle.tables.specs.declared.Found.{Found}
-use Rattle.tables.specs.declared.Found.TheVariants.{At, Missing}
 use Rattle.tables.specs.Tables.{seek}
 use Rattle.state.specs.declared.Event.{Event}
 use Rattle.state.specs.declared.Event.TheVariants.{Read, Write, Deliver, Crash, Lose}
@@ -28,9 +26,9 @@ free_receive s i =
     check (recipient_at s i).crashed 13
     (check (no_room (length s.flight - 1 + sent_by s.n (plain s (recipient_at s i) (message_at s i)).sends)) 15 0)
 
-abbrev pub free_deliver : State → Found → Outcome
-free_deliver s Missing = outcome s 12 s
-free_deliver s (At i) = outcome s (free_receive s i) (deliver_next s i)
+abbrev pub free_deliver : State → Option ℕ → Outcome
+free_deliver s None = outcome s 12 s
+free_deliver s (Some i) = outcome s (free_receive s i) (deliver_next s i)
 
 abbrev pub free_crash : State → ℕ → ℕ
 free_crash s p = check (not (within p s.n)) 8 (check (replica_of s p).crashed 10 0)

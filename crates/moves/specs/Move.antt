@@ -1,6 +1,6 @@
 -- What an accepted event does: one case for each thing that can happen, with what it needed, the place in the flight that was taken off, what the process
 -- became, what it sent, and what became of the rows. The limit of 12,000 events stands apart (`Free`).
-use Rattle.std.specs.Prelude.{ℕ, ◌+◌, ◌-◌, ◌≤◌, ◌<◌, ◌≡◌, true, false, ◌||◌, List, [], ◌∷◌, ◌++◌, ℤ, length, set}
+use Rattle.std.specs.Prelude.{ℕ, ◌+◌, ◌-◌, ◌≤◌, ◌<◌, ◌≡◌, true, false, ◌||◌, List, [], ◌∷◌, ◌++◌, ℤ, length, set, Some}
 use Rattle.words.specs.declared.Body.{Body}
 use Rattle.words.specs.declared.Body.TheVariants.{Query, Response, Update, Ack}
 use Rattle.words.specs.declared.Pair.{Pair}
@@ -18,7 +18,6 @@ use Rattle.replica.specs.declared.Sends.TheVariants.{Nothing}
 use Rattle.replica.specs.Clock.{after}
 use Rattle.replica.specs.Gathering.{nothing_gathered, gathered_with}
 use Rattle.replica.specs.Handlers.{accepted, broadcast_of, reply_of, stored, became as placed}
-use Rattle.tables.specs.declared.Found.TheVariants.{At}
 use Rattle.tables.specs.declared.Row.{Row}
 use Rattle.tables.specs.Tables.{seek, removed}
 use Rattle.state.specs.declared.Event.{Event}
@@ -69,7 +68,7 @@ written_by s p value = record { stamp = stamp_of (next_clock s p) p; value = val
 
 -- message k is at place i, its recipient is up, and there is room for as many as are sent
 pub record Delivers (s : State) (k i count : ℕ) : Type 0 where
-  pub found : seek k 0 s.flight ≡ At i
+  pub found : seek k 0 s.flight ≡ Some i
   pub up : (recipient_at s i).crashed ≡ false
   pub room : length s.flight - 1 + count ≤ most_flight
 
@@ -170,5 +169,5 @@ pub data Move (s : State) : Event → State → Type 0 where
   -- a process crashes, and takes no further step
   crashes : (p : Pid) → Within p.0 s.n → (replica_of s p.0).crashed ≡ false → Move s (Crash p) (crashed_now s p.0)
   -- a message from or to a crashed process is lost
-  loses : (k i : ℕ) → seek k 0 s.flight ≡ At i → ((replica_of s (message_at s i).from.0).crashed || (recipient_at s i).crashed) ≡ true
+  loses : (k i : ℕ) → seek k 0 s.flight ≡ Some i → ((replica_of s (message_at s i).from.0).crashed || (recipient_at s i).crashed) ≡ true
       → Move s (Lose k) (without_message s i)

@@ -1,5 +1,5 @@
 -- On a well-formed state no handler refuses, so the number that an event is refused by is that of the first check that holds: of document 01's list, and never 18.
-use Rattle.std.specs.Prelude.{ℕ, zero, suc, ◌+◌, ◌≤◌, ◌<◌, ◌≡◌, refl, Bool, true, false, not, cond, List, [], ◌∷◌, eqb, leb, length}
+use Rattle.std.specs.Prelude.{ℕ, zero, suc, ◌+◌, ◌≤◌, ◌<◌, ◌≡◌, refl, Bool, true, false, not, cond, List, [], ◌∷◌, eqb, leb, length, Option, Some, None}
 use Rattle.std.proofs.Common.{sym, subst, ◌∙◌, arith, eqb-true, leb-true}
 use Rattle.std.proofs.Math.Path.{ap}
 use Rattle.std.proofs.Math.Seq.{take-length}
@@ -18,8 +18,6 @@ use Rattle.replica.specs.declared.ResponseCounts.{ResponseCounts}
 use Rattle.replica.specs.declared.ResponseCounts.TheVariants.{Not, For}
 use Rattle.replica.specs.Handlers.{is_idle, read_rule, write_rule, query_rule, update_rule, crash_rule}
 use Rattle.replica.specs.Handlers.{response_counts, response_taken, response_counted, response_rule, ack_counts, ack_taken, ack_counted, ack_rule}
-use Rattle.tables.specs.declared.Found.{Found}
-use Rattle.tables.specs.declared.Found.TheVariants.{At as Place, Missing}
 use Rattle.tables.specs.Tables.{seek}
 use Rattle.tables.specs.TableLaws.{seek-at}
 use Rattle.state.specs.declared.Event.{Event}
@@ -37,8 +35,8 @@ use Rattle.state.proofs.Keeps.{keeps}
 use Rattle.state.proofs.PairLaws.{within-ok}
 use Rattle.state.proofs.Sized.{Sized, keeps-sized}
 use Rattle.state.proofs.WellLaws.{Well, well}
-use Rattle.format.specs.declared.Parse.{Parse}
-use Rattle.format.specs.declared.Parse.TheVariants.{Next, Refused, End}
+use Rattle.format.specs.Parse.{Parse}
+use Rattle.format.specs.Parse.{Next, Refused, End}
 use Rattle.format.specs.Format.{byte_at, whole, event_at}
 use Rattle.schedule.specs.Run.{Ran, stopped, turned, ran_from}
 use Rattle.promised.specs.Checks.{Check, first_of, flight_after, delivery_checks, loss_checks, own_checks, event_checks}
@@ -81,9 +79,9 @@ module _ (s : State) (w : Well s) (z : Sized s) where
       behind (no_room (length s.flight + s.n)) 15 _ _ λ e₆.
       h (invoked s p x 0 (rw (e₀, e₁, e₂, e₃, e₄, e₅, e₆) refl)).0
 
-  delivery-first : (k : ℕ) (found : Found) → seek k 0 s.flight ≡ found → (deliver_at s found).refusal ≡ first_of (delivery_checks s found)
-  delivery-first k Missing f = refl
-  delivery-first k (Place i) f =
+  delivery-first : (k : ℕ) (found : Option ℕ) → seek k 0 s.flight ≡ found → (deliver_at s found).refusal ≡ first_of (delivery_checks s found)
+  delivery-first k None f = refl
+  delivery-first k (Some i) f =
       behind (receiver_of s i).crashed 13 _ _ λ up.
       behind (no_room (flight_after s (receiver_of s i) (message_at s i))) 15 _ _ λ room.
       ap (λ (a : Answer). a.refusal) (delivered-plain s w z.rows i inside up) ∙ rules-accept s (receiver_of s i) (message_at s i) (message_at s i).body
@@ -91,9 +89,9 @@ module _ (s : State) (w : Well s) (z : Sized s) where
       inside : i < length s.flight
       inside = (seek-at k (length s.flight) i s.flight (sym (ap (seek k 0) (take-length s.flight) ∙ f))).0
 
-  loss-first : (found : Found) → (lose_at s found).refusal ≡ first_of (loss_checks s found)
-  loss-first Missing = refl
-  loss-first (Place i) = refl
+  loss-first : (found : Option ℕ) → (lose_at s found).refusal ≡ first_of (loss_checks s found)
+  loss-first None = refl
+  loss-first (Some i) = refl
 
   -- 17 before what is done with a message
   unless-full : (o : Outcome) (number : ℕ) → o.refusal ≡ number → (cond (full s) (outcome s 17 s) o).refusal ≡ cond (full s) 17 number
@@ -132,15 +130,15 @@ own-numbers s (Read p x) = refl
 own-numbers s (Write p x value) = refl
 own-numbers s (Deliver k) = go (seek k 0 s.flight)
   where
-    go : (found : Found) → UpTo 17 (delivery_checks s found) ≡ true
-    go Missing = refl
-    go (Place i) = refl
+    go : (found : Option ℕ) → UpTo 17 (delivery_checks s found) ≡ true
+    go None = refl
+    go (Some i) = refl
 own-numbers s (Crash p) = refl
 own-numbers s (Lose k) = go (seek k 0 s.flight)
   where
-    go : (found : Found) → UpTo 17 (loss_checks s found) ≡ true
-    go Missing = refl
-    go (Place i) = refl
+    go : (found : Option ℕ) → UpTo 17 (loss_checks s found) ≡ true
+    go None = refl
+    go (Some i) = refl
 
 -- 18 is not among an event's own
 pub event-numbers : (s : State) (e : Event) → first_of (event_checks s e) ≤ 17

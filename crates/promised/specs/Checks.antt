@@ -1,12 +1,10 @@
 -- The checks of each public function, in document 01's order ("Numbers of refusal"): a number of its list, and whether it is to be given. The first that holds is given, 0 if none does.
-use Rattle.std.specs.Prelude.{ℕ, ◌+◌, ◌-◌, Bool, true, not, cond, ◌||◌, List, [], ◌∷◌, eqb, leb, ltb, length, get_or}
+use Rattle.std.specs.Prelude.{ℕ, ◌+◌, ◌-◌, Bool, true, not, cond, ◌||◌, List, [], ◌∷◌, eqb, leb, ltb, length, get_or, Option, Some, None}
 use Rattle.words.specs.declared.Message.{Message}
 use Rattle.words.specs.Ranges.{within}
 use Rattle.replica.specs.declared.Replica.{Replica}
 use Rattle.replica.specs.Handlers.{is_idle}
 use Rattle.replica.specs.Numbers.{sent_by}
-use Rattle.tables.specs.declared.Found.{Found}
-use Rattle.tables.specs.declared.Found.TheVariants.{At as Place, Missing}
 use Rattle.tables.specs.declared.Row.{Row}
 use Rattle.tables.specs.Tables.{empty_message, seek}
 use Rattle.state.specs.declared.Bench.{Bench}
@@ -40,16 +38,16 @@ invocation_checks s p x =
 abbrev pub flight_after : State → Replica → Message → ℕ
 flight_after s recipient message = length s.flight - 1 + sent_by s.n (heard s recipient message).sends
 
-abbrev pub delivery_checks : State → Found → List Check
-delivery_checks s Missing = (12, true) ∷ []
-delivery_checks s (Place i) =
+abbrev pub delivery_checks : State → Option ℕ → List Check
+delivery_checks s None = (12, true) ∷ []
+delivery_checks s (Some i) =
     let message = get_or s.flight i empty_message in
     let recipient = replica_of s message.to.0 in
     (13, recipient.crashed) ∷ (15, no_room (flight_after s recipient message)) ∷ []
 
-abbrev pub loss_checks : State → Found → List Check
-loss_checks s Missing = (12, true) ∷ []
-loss_checks s (Place i) =
+abbrev pub loss_checks : State → Option ℕ → List Check
+loss_checks s None = (12, true) ∷ []
+loss_checks s (Some i) =
     let message = get_or s.flight i empty_message in
     (14, not ((replica_of s message.from.0).crashed || (replica_of s message.to.0).crashed)) ∷ []
 

@@ -1,9 +1,7 @@
 -- A bench that meets demand 2, followed along a run: after each event it is the same as the algorithm after the steps that the events name.
-use Rattle.std.specs.Prelude.{ℕ, ◌≡◌, refl, Bool, true, ◌&&◌, List, [], ◌∷◌, eqb}
+use Rattle.std.specs.Prelude.{ℕ, ◌≡◌, refl, Bool, true, ◌&&◌, List, [], ◌∷◌, eqb, Option, Some, None}
 use Rattle.std.proofs.Common.{sym, ap, subst, eqb-true}
 use Rattle.words.specs.RangeLaws.{and_left, and_right}
-use Rattle.tables.specs.declared.Found.{Found}
-use Rattle.tables.specs.declared.Found.TheVariants.{At as Place, Missing}
 use Rattle.tables.specs.Tables.{seek}
 use Rattle.state.specs.declared.Event.{Event}
 use Rattle.state.specs.declared.Event.TheVariants.{Read, Write, Deliver, Crash, Lose}
@@ -16,9 +14,9 @@ use Rattle.sc_abd.specs.Demand2.Names.{read, write, deliver, crash, lose}
 use Rattle.sc_abd.specs.Demand2.ReachedBy.{next}
 
 -- the place that was found; where nothing was found, 0 stands in
-abbrev place_of : Found → ℕ
-place_of (Place place) = place
-place_of Missing = 0
+abbrev place_of : Option ℕ → ℕ
+place_of (Some place) = place
+place_of None = 0
 
 -- the one step that an event can name
 abbrev pub action_of : State → Event → Action

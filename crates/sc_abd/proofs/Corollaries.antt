@@ -1,5 +1,5 @@
 -- What a user of the bench may rely on, in a user's words.
-use Rattle.std.specs.Prelude.{ℕ, ◌+◌, ◌-◌, ◌≡◌, refl, ◌≢◌, true, List, length}
+use Rattle.std.specs.Prelude.{ℕ, ◌+◌, ◌-◌, ◌≡◌, refl, ◌≢◌, true, List, length, Some}
 use Rattle.std.proofs.Common.{sym, ap, subst, subst₂, ◌∙◌, append-nil, arith}
 use Rattle.std.proofs.lemmas.Bool.{false≢true}
 use Rattle.std.proofs.lemmas.List.{set-get_or}
@@ -8,7 +8,6 @@ use Rattle.words.specs.declared.Body.TheVariants.{Query, Response, Update, Ack}
 use Rattle.words.specs.declared.Message.{Message}
 use Rattle.replica.specs.declared.Replica.{Replica}
 use Rattle.replica.specs.Handlers.{discarded}
-use Rattle.tables.specs.declared.Found.TheVariants.{At as Place}
 use Rattle.tables.specs.declared.Kind.TheVariants.{Read}
 use Rattle.tables.specs.Tables.{seek, removed}
 use Rattle.state.specs.declared.Event.{Event}
@@ -69,17 +68,17 @@ discarded-next s i e =
     ∙ rw (none, set-get_or s.replicas (p - 1) fresh_replica, append-nil) refl
 
 -- the place that a delivery's event names is the one whose message is delivered
-delivered-place : (s : State) → Well s → (k i : ℕ) → seek k 0 s.flight ≡ Place i → (step s (Deliver k)).refusal ≡ 0
+delivered-place : (s : State) → Well s → (k i : ℕ) → seek k 0 s.flight ≡ Some i → (step s (Deliver k)).refusal ≡ 0
     → (step s (Deliver k)).state ≡ deliver_next s i
 unfolding step
 delivered-place s w k i found z =
     let c = deliver-accepted s k z in
     let j = c.0 in
-    let there : seek k 0 s.flight ≡ Place j = found-place s w k j c.1.found in
+    let there : seek k 0 s.flight ≡ Some j = found-place s w k j c.1.found in
     let same : j ≡ i = cc in
     c.2 ∙ ap (deliver_next s) same
 
-pub late-reply-changes-nothing : (s : State) → ReachedBy step s → (k i : ℕ) → seek k 0 s.flight ≡ Place i → (step s (Deliver k)).refusal ≡ 0
+pub late-reply-changes-nothing : (s : State) → ReachedBy step s → (k i : ℕ) → seek k 0 s.flight ≡ Some i → (step s (Deliver k)).refusal ≡ 0
     → is_reply (message_at s i).body ≡ true → (message_at s i).rid.0 ≢ (recipient_at s i).rid.0 → (step s (Deliver k)).state ≡ without_reply s i
 late-reply-changes-nothing s r k i found z reply late =
     delivered-place s (reached-well r) k i found z

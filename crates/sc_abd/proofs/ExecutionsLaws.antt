@@ -1,9 +1,8 @@
 -- A bench that meets demand 2 performs every execution of Algorithm 1 within the limits, and is the same as the algorithm at its end; one that also
 -- keeps the limits performs no others. Ours does both: its runs are these executions.
-use Rattle.std.specs.Prelude.{ℕ, ◌+◌, ◌-◌, ◌≤◌, ◌<◌, ◌≡◌, refl, true, List, [], ◌∷◌, length}
+use Rattle.std.specs.Prelude.{ℕ, ◌+◌, ◌-◌, ◌≤◌, ◌<◌, ◌≡◌, refl, true, List, [], ◌∷◌, length, Some}
 use Rattle.std.proofs.Common.{sym, ap, subst, ◌∙◌, arith}
 use Rattle.words.specs.Ranges.{within}
-use Rattle.tables.specs.declared.Found.TheVariants.{At as Place}
 use Rattle.tables.specs.Tables.{seek}
 use Rattle.state.specs.declared.Event.{Event}
 use Rattle.state.specs.State.{State, fresh}
@@ -107,10 +106,10 @@ module _ (s : State) (a : System) (r : ReachedBy step s) (same : Same s a) where
   invoked-limits : (p x : ℕ) (call : Call) → register_of call ≡ x → Invoked s p x → WithinLimits s a (Action.invoke p call)
   invoked-limits p x call f i = (i.room, (ap (λ y. within y s.m) f ∙ ok-within i.register, i.rows, i.flight))
 
-  delivered-limits : (k place : ℕ) → seek k 0 s.flight ≡ Place place → (step_deliver s k).refusal ≡ 0 → WithinLimits s a (Action.receive place)
+  delivered-limits : (k place : ℕ) → seek k 0 s.flight ≡ Some place → (step_deliver s k).refusal ≡ 0 → WithinLimits s a (Action.receive place)
   delivered-limits k place found z =
       let (i, c, next) = deliver-accepted s k z in
-      let there : seek k 0 s.flight ≡ Place i = found-place s (reached-well r) k i c.found in
+      let there : seek k 0 s.flight ≡ Some i = found-place s (reached-well r) k i c.found in
       let here : i ≡ place = cc in
       let alike = sends-alike s (reached-well r) (reached-numbered s (reached r)) (reached-sized s (reached r)).rows a same i
       (omega (arith, c.found.inside, as-many-messages s a same)) in

@@ -1,5 +1,5 @@
 -- A process that updates for a read has queried before: as many as end a query phase have responded to the request before its present one.
-use Rattle.std.specs.Prelude.{ℕ, ◌+◌, ◌-◌, ◌≤◌, ◌≡◌, true, List, [], ◌∷◌, ◌++◌, length, get_or}
+use Rattle.std.specs.Prelude.{ℕ, ◌+◌, ◌-◌, ◌≤◌, ◌≡◌, true, List, [], ◌∷◌, ◌++◌, length, get_or, Some}
 use Rattle.std.proofs.Math.Path.{refl, subst}
 use Rattle.std.proofs.Common.{sym, ap, ◌∙◌, arith, leb-true}
 use Rattle.std.proofs.Math.Decide.{ℕ_discrete}
@@ -15,7 +15,6 @@ use Rattle.replica.specs.declared.Gathered.{Gathered}
 use Rattle.replica.specs.declared.Phase.TheVariants.{Idle, Querying, Updating}
 use Rattle.replica.specs.declared.Replica.{Replica}
 use Rattle.replica.specs.Handlers.{discarded, read_rule, write_rule, query_rule, update_rule, crash_rule}
-use Rattle.tables.specs.declared.Found.TheVariants.{At as Place}
 use Rattle.tables.specs.declared.Kind.TheVariants.{Read as ReadKind, Write as WriteKind}
 use Rattle.tables.specs.declared.Row.{Row}
 use Rattle.tables.specs.Tables.{empty_row, seek, removed}
@@ -99,7 +98,7 @@ module _ (s : State) (w : Well s) (run : List Moment) (filled : AllFilled s run)
 
   -- ---- the message at place i is received
 
-  module _ (k i : ℕ) (found : seek k 0 s.flight ≡ Place i) (ok : MessageOk s (message_at s i)) (p : ℕ) (actor : Within p s.n)
+  module _ (k i : ℕ) (found : seek k 0 s.flight ≡ Some i) (ok : MessageOk s (message_at s i)) (p : ℕ) (actor : Within p s.n)
       (to : (message_at s i).to.0 ≡ p) (rows : List Row) (kinds : KindsStay s rows) where
     abbrev After : Answer → Type 0
     After answer = QueriedFor (Deliver k) rows p answer.replica

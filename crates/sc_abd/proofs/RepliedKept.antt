@@ -1,5 +1,5 @@
 -- The replier set of a process holds only processes that have replied to its present request: its members are witnesses, and not just a byte.
-use Rattle.std.specs.Prelude.{ℕ, ◌+◌, ◌≤◌, ◌≡◌, true, List, [], length}
+use Rattle.std.specs.Prelude.{ℕ, ◌+◌, ◌≤◌, ◌≡◌, true, List, [], length, Some}
 use Rattle.std.proofs.Math.Path.{refl, ap, subst}
 use Rattle.std.proofs.Common.{sym, ◌∙◌, inl, inr, arith}
 use Rattle.std.proofs.lemmas.Bool.{false≢true}
@@ -12,7 +12,6 @@ use Rattle.replica.specs.declared.Answer.{Answer}
 use Rattle.replica.specs.declared.Replica.{Replica}
 use Rattle.replica.specs.Gathering.{gathered_with}
 use Rattle.replica.specs.Handlers.{discarded, read_rule, write_rule, query_rule, update_rule, crash_rule}
-use Rattle.tables.specs.declared.Found.TheVariants.{At as Place}
 use Rattle.tables.specs.declared.Row.{Row}
 use Rattle.tables.specs.Tables.{seek, removed}
 use Rattle.state.specs.declared.Event.{Event}
@@ -70,7 +69,7 @@ module _ (s : State) (w : Well s) (run : List Moment) (filled : AllFilled s run)
 
   -- ---- the message at place i is received
 
-  module _ (k i : ℕ) (found : seek k 0 s.flight ≡ Place i) (p : ℕ) (least : 1 ≤ p) (to : (message_at s i).to.0 ≡ p) where
+  module _ (k i : ℕ) (found : seek k 0 s.flight ≡ Some i) (p : ℕ) (least : 1 ≤ p) (to : (message_at s i).to.0 ≡ p) where
     abbrev After : Answer → Type 0
     After answer = Filled p answer.replica (longer s (Deliver k) run)
 

@@ -1,5 +1,5 @@
 -- What the checks allow is accepted: on a well-formed state no check holds, the handler is its plain rule, and the outcome is 0 with the next state.
-use Rattle.std.specs.Prelude.{ℕ, ◌+◌, ◌-◌, ◌≤◌, ◌<◌, ◌≡◌, refl, Bool, true, false, ◌||◌, [], ◌∷◌, ◌++◌, leb, ℤ, length}
+use Rattle.std.specs.Prelude.{ℕ, ◌+◌, ◌-◌, ◌≤◌, ◌<◌, ◌≡◌, refl, Bool, true, false, ◌||◌, [], ◌∷◌, ◌++◌, leb, ℤ, length, Some}
 use Rattle.std.proofs.Math.Path.{ap}
 use Rattle.std.proofs.Common.{◌∙◌, le-ltb}
 use Rattle.std.proofs.Math.Bool.{not}
@@ -11,7 +11,6 @@ use Rattle.replica.specs.declared.Answer.{Answer}
 use Rattle.replica.specs.declared.Replica.{Replica}
 use Rattle.replica.specs.Handlers.{is_idle, read_rule, write_rule, query_rule, update_rule, crash_rule}
 use Rattle.replica.specs.Numbers.{sent_by, pointed}
-use Rattle.tables.specs.declared.Found.TheVariants.{At as Place}
 use Rattle.tables.specs.Tables.{seek, removed}
 use Rattle.state.specs.State.{State, replica_of}
 use Rattle.state.specs.Step.{Outcome, outcome, check, full, no_room, invoke_refusal, deliver_refusal, crash_refusal, lose_refusal}
@@ -91,7 +90,7 @@ accepts-all (chooses pair row gathered f present many) = refl
 accepts-all (waits row sent f present few) = refl
 accepts-all (ends row sent f present many) = refl
 
-module _ (s : State) (w : Well s) (room : s.accepted < 12000) (k i : ℕ) (found : seek k 0 s.flight ≡ Place i) where
+module _ (s : State) (w : Well s) (room : s.accepted < 12000) (k i : ℕ) (found : seek k 0 s.flight ≡ Some i) where
   pub deliver-allowed : length s.rows ≤ 1024 → i < length s.flight → (recipient_at s i).crashed ≡ false
       → length s.flight - 1 + sent_by s.n (plain s (recipient_at s i) (message_at s i)).sends ≤ 512
       → step_deliver s k ≡ done (deliver_next s i)

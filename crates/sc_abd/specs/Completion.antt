@@ -1,5 +1,5 @@
 -- What completes an operation: an ack of the present request that makes as many as end its phase, a majority, and nothing else.
-use Rattle.std.specs.Prelude.{ℕ, ◌-◌, ◌≤◌, ◌<◌, ◌≡◌, refl, ◌≢◌, ◌⊎◌, Bool, true, false, List, [], ◌∷◌, ◌++◌, length, get_or, set}
+use Rattle.std.specs.Prelude.{ℕ, ◌-◌, ◌≤◌, ◌<◌, ◌≡◌, refl, ◌≢◌, ◌⊎◌, Bool, true, false, List, [], ◌∷◌, ◌++◌, length, get_or, set, Some}
 use Rattle.std.proofs.Math.Path.{sym}
 use Rattle.std.proofs.Common.{ap, subst, ◌∙◌, inl, inr, arith, get_or-set_same, get_or-set_other, leb-true}
 use Rattle.std.proofs.lemmas.Bool.{false≢true}
@@ -18,7 +18,6 @@ use Rattle.replica.specs.declared.Phase.TheVariants.{Updating}
 use Rattle.replica.specs.declared.Replica.{Replica}
 use Rattle.replica.specs.Handlers.{query_rule, update_rule}
 use Rattle.replica.specs.Numbers.{pointed}
-use Rattle.tables.specs.declared.Found.TheVariants.{At as Place}
 use Rattle.tables.specs.declared.Row.{Row}
 use Rattle.tables.specs.Tables.{empty_row, seek}
 use Rattle.state.specs.declared.Event.{Event}
@@ -42,7 +41,7 @@ pub record Completes (s : State) (e : Event) (row : ℕ) : Type 0 where
   pub number : ℕ
   pub place : ℕ
   pub event : e ≡ Deliver number
-  pub found : seek number 0 s.flight ≡ Place place
+  pub found : seek number 0 s.flight ≡ Some place
   pub in-flight : place < length s.flight
   pub ack : (message_at s place).body ≡ Ack
   pub present : (message_at s place).rid.0 ≡ (recipient_at s place).rid.0
@@ -99,7 +98,7 @@ unanswered rows number (Queried who) j l e =
 unanswered rows number (At time pair who) j l e = absurd (false≢true e)
 
 module _ (s : State) (w : Well s) (row : ℕ) (old : Within row (length s.rows)) (pending : (row_of s row).answered.0 ≡ 0) where
-  delivery-completes : (k i : ℕ) → i < length s.flight → seek k 0 s.flight ≡ Place i
+  delivery-completes : (k i : ℕ) → i < length s.flight → seek k 0 s.flight ≡ Some i
       → (row_of (deliver_next s i) row).answered.0 ≢ 0 → Completes s (Deliver k) row
   delivery-completes k i l found new = go (ends-or-not (plain-answers s r m m.body))
     where

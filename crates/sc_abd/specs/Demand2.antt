@@ -1,9 +1,8 @@
 -- Demand 2, stated of any bench f, so that it is a promise and not a description of ours: each accepted event is the step of Algorithm 1 that the
 -- event names, with its result; and each step of Algorithm 1 that is within the stated limits is accepted.
-use Rattle.std.specs.Prelude.{ℕ, ◌+◌, ◌-◌, ◌≤◌, ◌<◌, ◌≡◌, true, length}
+use Rattle.std.specs.Prelude.{ℕ, ◌+◌, ◌-◌, ◌≤◌, ◌<◌, ◌≡◌, true, length, Some}
 use Rattle.words.specs.Limits.{most_events, most_flight, most_rows}
 use Rattle.words.specs.Ranges.{within}
-use Rattle.tables.specs.declared.Found.TheVariants.{At as Place}
 use Rattle.tables.specs.Tables.{seek}
 use Rattle.state.specs.declared.Event.{Event}
 use Rattle.state.specs.declared.Event.TheVariants.{Read, Write, Deliver, Crash, Lose}
@@ -16,9 +15,9 @@ use Rattle.sc_abd.specs.Same.{Same}
 pub data Names (s : State) : Event → Action → Type 0 where
   read : (p : _) (x : ℕ) → Names s (Read p x) (Action.invoke p.0 (Call.READ x))
   write : (p : _) (x : ℕ) (v : _) → Names s (Write p x v) (Action.invoke p.0 (Call.WRITE x v))
-  deliver : (k place : ℕ) → seek k 0 s.flight ≡ Place place → Names s (Deliver k) (Action.receive place)
+  deliver : (k place : ℕ) → seek k 0 s.flight ≡ Some place → Names s (Deliver k) (Action.receive place)
   crash : (p : _) → Names s (Crash p) (Action.crash p.0)
-  lose : (k place : ℕ) → seek k 0 s.flight ≡ Place place → Names s (Lose k) (Action.lose place)
+  lose : (k place : ℕ) → seek k 0 s.flight ≡ Some place → Names s (Lose k) (Action.lose place)
 
 -- the register of a call
 abbrev pub register_of : Call → ℕ

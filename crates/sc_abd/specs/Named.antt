@@ -1,9 +1,8 @@
 -- Whose replies a row names (document 02, "Wish 4"), told from the run alone: at some moment of it a reply from j was counted for the operation in the row.
-use Rattle.std.specs.Prelude.{ℕ, ◌≤◌, ◌≡◌, true, List, ◌∷◌}
+use Rattle.std.specs.Prelude.{ℕ, ◌≤◌, ◌≡◌, true, List, ◌∷◌, Some}
 use Rattle.words.specs.Quorum.{counted}
 use Rattle.words.specs.QuorumLaws.{Inside}
 use Rattle.replica.specs.Numbers.{pointed}
-use Rattle.tables.specs.declared.Found.TheVariants.{At as Place}
 use Rattle.tables.specs.declared.Row.{Row}
 use Rattle.tables.specs.Tables.{seek}
 use Rattle.state.specs.declared.Event.TheVariants.{Deliver}
@@ -17,7 +16,7 @@ pub record CountsFor (row j : ℕ) (stage : Stage) (moment : Moment) : Type 0 wh
   pub number : ℕ
   pub place : ℕ
   pub event : moment.event ≡ Deliver number
-  pub found : seek number 0 moment.before.flight ≡ Place place
+  pub found : seek number 0 moment.before.flight ≡ Some place
   pub reply : is_reply (message_at moment.before place).body ≡ true
   pub of-stage : stage_for (message_at moment.before place).body ≡ stage
   pub sender : (message_at moment.before place).from.0 ≡ j

@@ -1,6 +1,6 @@
 -- What every event keeps of who was counted: whoever was counted for a row in a phase is named by the row, or is in the set of a process that waits for the
 -- row in that phase; and nobody else is. Here, by what becomes of the process that takes its step, and of the rows.
-use Rattle.std.specs.Prelude.{ℕ, ◌+◌, ◌-◌, ◌≤◌, ◌<◌, ◌≡◌, refl, ◌≢◌, ◌⊎◌, Bool, true, false, List, [], ◌∷◌, ◌++◌, length, get_or, set}
+use Rattle.std.specs.Prelude.{ℕ, ◌+◌, ◌-◌, ◌≤◌, ◌<◌, ◌≡◌, refl, ◌≢◌, ◌⊎◌, Bool, true, false, List, [], ◌∷◌, ◌++◌, length, get_or, set, Some}
 use Rattle.std.proofs.Common.{sym, ap, subst, ◌∙◌, inl, inr, arith, length-append, get_or-set_same, get_or-set_other}
 use Rattle.std.proofs.lemmas.Bool.{false≢true}
 use Rattle.std.proofs.Math.Decide.{ℕ_discrete, dec_lt}
@@ -13,7 +13,6 @@ use Rattle.replica.specs.declared.Answer.{Answer}
 use Rattle.replica.specs.declared.Phase.TheVariants.{Idle}
 use Rattle.replica.specs.declared.Replica.{Replica}
 use Rattle.replica.specs.Numbers.{pointed}
-use Rattle.tables.specs.declared.Found.TheVariants.{At as Place}
 use Rattle.tables.specs.declared.Row.{Row}
 use Rattle.tables.specs.Tables.{empty_row, seek, removed}
 use Rattle.state.specs.declared.Event.{Event}
@@ -70,11 +69,11 @@ pub not-delivered : (s : State) (e : Event) → is_delivery e ≡ false → (row
 not-delivered s e other row j stage c = false≢true (sym other ∙ ap is_delivery c.event)
 
 -- the message that is counted is the one that is delivered
-pub counts-place : (s : State) (k i row j : ℕ) (stage : Stage) → seek k 0 s.flight ≡ Place i → (c : Counts s (Deliver k) row j stage) → c.place ≡ i
+pub counts-place : (s : State) (k i row j : ℕ) (stage : Stage) → seek k 0 s.flight ≡ Some i → (c : Counts s (Deliver k) row j stage) → c.place ≡ i
 counts-place s k i row j stage found c =
     let event = c.event in
     let same : k ≡ c.number = cc in
-    let here : seek k 0 s.flight ≡ Place c.place = ap (λ x. seek x 0 s.flight) same ∙ c.found in
+    let here : seek k 0 s.flight ≡ Some c.place = ap (λ x. seek x 0 s.flight) same ∙ c.found in
     cc
 
 -- ---- process p becomes another replica, and these are the rows
@@ -221,7 +220,7 @@ begun-learns s seven few e p actor answer row₀ idle empty nobody none =
 
 -- the message at place i is a reply of this stage to a process that waits for this row in it, and bears its present number
 pub record Heard (s : State) (k i row : ℕ) (stage : Stage) : Type 0 where
-  pub found : seek k 0 s.flight ≡ Place i
+  pub found : seek k 0 s.flight ≡ Some i
   pub reply : is_reply (message_at s i).body ≡ true
   pub of-stage : stage_for (message_at s i).body ≡ stage
   pub waits : pointed (recipient_at s i).phase ≡ row

@@ -1,5 +1,5 @@
 -- Every move makes known those whom it counts, and nobody else.
-use Rattle.std.specs.Prelude.{ℕ, ◌+◌, ◌-◌, ◌≤◌, ◌<◌, ◌≡◌, refl, ◌⊎◌, true, false, cond, List, [], ◌∷◌, eqb, ℤ, pos, length, get_or, set}
+use Rattle.std.specs.Prelude.{ℕ, ◌+◌, ◌-◌, ◌≤◌, ◌<◌, ◌≡◌, refl, ◌⊎◌, true, false, cond, List, [], ◌∷◌, eqb, ℤ, pos, length, get_or, set, Some}
 use Rattle.std.proofs.Common.{sym, ap, subst, ◌∙◌, inl, inr, arith, eq-eqb, eqb-true}
 use Rattle.std.proofs.lemmas.Bool.{false≢true}
 use Rattle.words.specs.declared.Body.{Body}
@@ -19,7 +19,6 @@ use Rattle.replica.specs.declared.Sends.TheVariants.{Nothing}
 use Rattle.replica.specs.Gathering.{nothing_gathered, gathered_with}
 use Rattle.replica.specs.Handlers.{accepted, is_idle, stored}
 use Rattle.replica.specs.Numbers.{pointed}
-use Rattle.tables.specs.declared.Found.TheVariants.{At as Place}
 use Rattle.tables.specs.declared.Kind.{Kind}
 use Rattle.tables.specs.declared.Kind.TheVariants.{Read as ReadKind, Write as WriteKind}
 use Rattle.tables.specs.declared.Row.{Row}
@@ -90,7 +89,7 @@ module _ (s : State) (w : Well s) where
   few : s.n ≤ 7
   few = w.processes.most
 
-  module _ (k i : ℕ) (found : seek k 0 s.flight ≡ Place i) where
+  module _ (k i : ℕ) (found : seek k 0 s.flight ≡ Some i) where
     to : Within (message_at s i).to.0 s.n
     to = (message-at s w i (found_inside s k i found)).recipient
 
@@ -123,12 +122,12 @@ module _ (s : State) (w : Well s) where
         (subst (λ x. (message_at s x).rid.0 ≡ (recipient_at s x).rid.0) there c.present)
 
   -- a response that counts, an ack that counts
-  responded : (k i row : ℕ) (gathered : Gathered) (pair : Pair) → seek k 0 s.flight ≡ Place i → Responds s i row gathered pair
+  responded : (k i row : ℕ) (gathered : Gathered) (pair : Pair) → seek k 0 s.flight ≡ Some i → Responds s i row gathered pair
       → Heard s k i row Stage.querying
   responded k i row gathered pair found c =
       heard k i found row (Querying row gathered) (ap is_reply c.body) (ap stage_for c.body) c.phase refl c.present
 
-  acked : (k i row : ℕ) (sent : Pair) → seek k 0 s.flight ≡ Place i → Acks s i row sent → Heard s k i row Stage.updating
+  acked : (k i row : ℕ) (sent : Pair) → seek k 0 s.flight ≡ Some i → Acks s i row sent → Heard s k i row Stage.updating
   acked k i row sent found c =
       heard k i found row (Updating row sent) (ap is_reply c.body) (ap stage_for c.body) c.phase refl c.present
 
@@ -144,7 +143,7 @@ module _ (s : State) (w : Well s) where
   completed-names r time pair who Stage.updating = inl refl
 
   -- the row that the recipient waits for
-  module _ (k i row : ℕ) (found : seek k 0 s.flight ≡ Place i) (busy : is_idle (recipient_at s i).phase ≡ false)
+  module _ (k i row : ℕ) (found : seek k 0 s.flight ≡ Some i) (busy : is_idle (recipient_at s i).phase ≡ false)
       (points : pointed (recipient_at s i).phase ≡ row) where
     waited-row : pending_of (message_at s i).to.0 1 s.rows ≡ row ∷ []
     waited-row = waits-for s w (message_at s i).to.0 (to k i found) row busy points
@@ -155,7 +154,7 @@ module _ (s : State) (w : Well s) where
     row_inside : row - 1 < length s.rows
     row_inside = let h = pending-within (message_at s i).to.0 row s.rows waited-row in omega (arith, h.least, h.most)
 
-  chooses-learns : (k i row : ℕ) (gathered : Gathered) (pair : Pair) → seek k 0 s.flight ≡ Place i → Responds s i row gathered pair
+  chooses-learns : (k i row : ℕ) (gathered : Gathered) (pair : Pair) → seek k 0 s.flight ≡ Some i → Responds s i row gathered pair
       → (r : Replica) (sends : Sends) → r.repliers ≡ 0
       → Learns s (Deliver k) (arrived s i r sends (set s.rows (row - 1) (queried_row (row_of s row) (repliers_then s i))))
   chooses-learns k i row gathered pair found c r sends empty =
@@ -166,7 +165,7 @@ module _ (s : State) (w : Well s) where
       (unqueried s w (message_at s i).to.0 (to k i found) row points (ap stage_of c.phase)) refl
       (queried-names (row_of s row) (repliers_then s i))
 
-  completes-learns : (k i row : ℕ) (sent : Pair) → seek k 0 s.flight ≡ Place i → Acks s i row sent → (r : Replica) → r.repliers ≡ 0 → (time : Time)
+  completes-learns : (k i row : ℕ) (sent : Pair) → seek k 0 s.flight ≡ Some i → Acks s i row sent → (r : Replica) → r.repliers ≡ 0 → (time : Time)
       → Learns s (Deliver k) (arrived s i r Nothing (set s.rows (row - 1) (completed (row_of s row) time sent (repliers_then s i))))
   completes-learns k i row sent found c r empty time =
       let busy = ap is_idle c.phase in
@@ -185,7 +184,7 @@ module _ (s : State) (w : Well s) where
       (idle-set s w p b.actor b.idle) nobody (not-delivered s e other)
 
   -- a message that does not count
-  silent-learns : (k i : ℕ) → seek k 0 s.flight ≡ Place i → (r : Replica) (sends : Sends) → r.phase ≡ (recipient_at s i).phase
+  silent-learns : (k i : ℕ) → seek k 0 s.flight ≡ Some i → (r : Replica) (sends : Sends) → r.phase ≡ (recipient_at s i).phase
       → r.repliers ≡ (recipient_at s i).repliers → ((row j : ℕ) (stage : Stage) → Counts s (Deliver k) row j stage → ⊥)
       → Learns s (Deliver k) (arrived s i r sends s.rows)
   silent-learns k i found r sends phase set none =

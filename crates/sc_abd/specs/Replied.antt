@@ -1,11 +1,10 @@
 -- Who has replied, told from the run alone: at some moment of it a message from j to p was delivered, a reply of this request number and this phase.
-use Rattle.std.specs.Prelude.{ℕ, ◌+◌, ◌-◌, ◌≤◌, ◌≡◌, true, List, ◌∷◌, get_or}
+use Rattle.std.specs.Prelude.{ℕ, ◌+◌, ◌-◌, ◌≤◌, ◌≡◌, true, List, ◌∷◌, get_or, Some}
 use Rattle.words.specs.Quorum.{member, counted}
 use Rattle.words.specs.QuorumLaws.{Inside}
 use Rattle.replica.specs.declared.Phase.{Phase}
 use Rattle.replica.specs.declared.Phase.TheVariants.{Idle, Querying, Updating}
 use Rattle.replica.specs.declared.Replica.{Replica}
-use Rattle.tables.specs.declared.Found.TheVariants.{At as Place}
 use Rattle.tables.specs.declared.Kind.{Kind}
 use Rattle.tables.specs.declared.Kind.TheVariants.{Read}
 use Rattle.tables.specs.declared.Row.{Row}
@@ -24,7 +23,7 @@ pub record Receives (p j rid : ℕ) (stage : Stage) (moment : Moment) : Type 0 w
   pub number : ℕ
   pub place : ℕ
   pub event : moment.event ≡ Deliver number
-  pub found : seek number 0 moment.before.flight ≡ Place place
+  pub found : seek number 0 moment.before.flight ≡ Some place
   pub reply : is_reply (message_at moment.before place).body ≡ true
   pub of-stage : stage_for (message_at moment.before place).body ≡ stage
   pub sender : (message_at moment.before place).from.0 ≡ j

@@ -1,5 +1,5 @@
 -- What an accepted event says: none of its checks held, and the state that it gives is the next one by the plain rules.
-use Rattle.std.specs.Prelude.{ℕ, ◌+◌, ◌-◌, ◌≤◌, ◌<◌, ◌≡◌, refl, Bool, true, false, not, cond, ◌||◌, [], ◌∷◌, ◌++◌, eqb, leb, ℤ, length}
+use Rattle.std.specs.Prelude.{ℕ, ◌+◌, ◌-◌, ◌≤◌, ◌<◌, ◌≡◌, refl, Bool, true, false, not, cond, ◌||◌, [], ◌∷◌, ◌++◌, eqb, leb, ℤ, length, Option, Some, None}
 use Rattle.std.proofs.Common.{sym, ap, subst, ◌∙◌, arith, leb-false, ltb-false}
 use Rattle.std.proofs.Math.Seq.{take-length}
 use Rattle.std.proofs.lemmas.Bool.{eqb-false, not-false}
@@ -15,8 +15,6 @@ use Rattle.replica.specs.Handlers.{query_refusal, query_received, update_refusal
 use Rattle.replica.specs.Handlers.{response_refusal, response_received, ack_refusal, ack_received}
 use Rattle.replica.specs.Handlers.{crash_refusal as down_for, crash_rule, crashed}
 use Rattle.replica.specs.Numbers.{sent_by, pointed}
-use Rattle.tables.specs.declared.Found.{Found}
-use Rattle.tables.specs.declared.Found.TheVariants.{At, Missing}
 use Rattle.tables.specs.Tables.{seek, removed}
 use Rattle.tables.specs.TableLaws.{seek-at}
 use Rattle.state.specs.State.{State, replica_of}
@@ -149,20 +147,20 @@ crash-accepted s p e =
 
 pub record InFlight (s : State) (k i : ℕ) : Type 0 where
   pub room : s.accepted < 12000
-  pub place : seek k 0 s.flight ≡ At i
+  pub place : seek k 0 s.flight ≡ Some i
   pub inside : i < length s.flight
   pub number : (message_at s i).number ≡ k
 
 -- what is done with a message is done with the one that is found: otherwise 17 or 12 is given
-in-flight : (s : State) (k : ℕ) (act : Found → Outcome) → (act Missing).refusal ≡ 12 → (cond (full s) (outcome s 17 s) (act (seek k 0 s.flight))).refusal ≡ 0
-    → (i : ℕ) × InFlight s k i × (cond (full s) (outcome s 17 s) (act (seek k 0 s.flight)) ≡ act (At i))
+in-flight : (s : State) (k : ℕ) (act : Option ℕ → Outcome) → (act None).refusal ≡ 12 → (cond (full s) (outcome s 17 s) (act (seek k 0 s.flight))).refusal ≡ 0
+    → (i : ℕ) × InFlight s k i × (cond (full s) (outcome s 17 s) (act (seek k 0 s.flight)) ≡ act (Some i))
 in-flight s k act none e = go (full s) refl (seek k 0 s.flight) refl e
   where
-    go : (b : Bool) → full s ≡ b → (f : Found) → seek k 0 s.flight ≡ f → (cond b (outcome s 17 s) (act f)).refusal ≡ 0
-        → (i : ℕ) × InFlight s k i × (cond b (outcome s 17 s) (act f) ≡ act (At i))
+    go : (b : Bool) → full s ≡ b → (f : Option ℕ) → seek k 0 s.flight ≡ f → (cond b (outcome s 17 s) (act f)).refusal ≡ 0
+        → (i : ℕ) × InFlight s k i × (cond b (outcome s 17 s) (act f) ≡ act (Some i))
     go true u f h z = absurd (omega arith)
-    go false u Missing h z = absurd (omega (arith, none))
-    go false u (At i) h z =
+    go false u None h z = absurd (omega (arith, none))
+    go false u (Some i) h z =
         let found = seek-at k (length s.flight) i s.flight (sym (ap (seek k 0) (take-length s.flight) ∙ h)) in
         (i, record { room = room-left s u; place = h; inside = found.0; number = found.1 }, refl)
 
@@ -172,9 +170,9 @@ pub record Deliverable (s : State) (k i : ℕ) : Type 0 where
   pub up : (recipient_at s i).crashed ≡ false
   pub flight : length s.flight - 1 + sent_by s.n (plain s (recipient_at s i) (message_at s i)).sends ≤ 512
 
-deliver-at : (s : State) (i : ℕ) → (deliver_at s (At i)).refusal ≡ 0
+deliver-at : (s : State) (i : ℕ) → (deliver_at s (Some i)).refusal ≡ 0
     → ((recipient_at s i).crashed ≡ false) × (length s.flight - 1 + sent_by s.n (plain s (recipient_at s i) (message_at s i)).sends ≤ 512)
-    × ((deliver_at s (At i)).state ≡ deliver_next s i)
+    × ((deliver_at s (Some i)).state ≡ deliver_next s i)
 deliver-at s i e =
     let r : Replica = recipient_at s i in
     let answer : Answer = heard s r (message_at s i) in

@@ -1,6 +1,6 @@
 -- The four counters of a state are the sums over its run, and what was sent is delivered, lost or in flight.
 use Prim.Native.Nat.{ℕ, ◌+◌, ◌<◌}
-use Rattle.std.specs.Prelude.{◌≡◌, Bool, true, false, cond, ◌&&◌, List, [], ◌∷◌, eqb, leb, length}
+use Rattle.std.specs.Prelude.{◌≡◌, Bool, true, false, cond, ◌&&◌, List, [], ◌∷◌, eqb, leb, length, Some}
 use Rattle.std.proofs.Math.Path.{refl}
 use Rattle.std.proofs.Common.{sym, ap, ◌∙◌, arith, length-append}
 use Rattle.std.proofs.Math.Seq.{take-length}
@@ -21,7 +21,6 @@ use Rattle.replica.specs.declared.Replica.{Replica}
 use Rattle.replica.specs.Handlers.{read_rule, write_rule, query_rule, update_rule, crash_rule}
 use Rattle.replica.specs.Handlers.{response_counts, response_counted, response_taken, response_rule, ack_counts, ack_counted, ack_taken, ack_rule}
 use Rattle.replica.specs.Numbers.{sent_by}
-use Rattle.tables.specs.declared.Found.TheVariants.{At as Place}
 use Rattle.tables.specs.declared.Row.{Row}
 use Rattle.tables.specs.Tables.{seek, removed}
 use Rattle.tables.specs.TableLaws.{seek-at}
@@ -43,7 +42,7 @@ use Rattle.state.specs.Counting.{sent_at, delivered_at, lost_at, Counted, Counti
 use Rattle.state.specs.Counting.RunBy.{begun, then}
 
 -- a message that was found is in the table
-pub seek-within : (k i : ℕ) (xs : List Message) → seek k 0 xs ≡ Place i → i < length xs
+pub seek-within : (k i : ℕ) (xs : List Message) → seek k 0 xs ≡ Some i → i < length xs
 seek-within k i xs e = (seek-at k (length xs) i xs (sym (ap (seek k 0) (take-length xs) ∙ e))).0
 
 -- ---- what a rule sends is what document 01 says

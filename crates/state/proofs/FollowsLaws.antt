@@ -1,5 +1,5 @@
 -- Every outcome of `step` is the state as it was with a number, or 0 and the state that the event's rule gives.
-use Rattle.std.specs.Prelude.{ℕ, ◌+◌, ◌-◌, ◌≡◌, refl, Bool, true, false, cond, not, eqb, leb, length}
+use Rattle.std.specs.Prelude.{ℕ, ◌+◌, ◌-◌, ◌≡◌, refl, Bool, true, false, cond, not, eqb, leb, length, Option, Some, None}
 use Rattle.std.proofs.Common.{sym, subst, ne_eqb, eq-eqb}
 use Rattle.std.proofs.lemmas.Bool.{eqb-false}
 use Rattle.words.specs.Ranges.{within}
@@ -9,8 +9,6 @@ use Rattle.replica.specs.Handlers.{unless_refused, is_idle, read_begun, read_ref
 use Rattle.replica.specs.Handlers.{crashed, crash_refusal as crash_guard, crash_rule}
 use Rattle.replica.proofs.HandlerLaws.{picks_first, picks_second}
 use Rattle.replica.specs.Numbers.{sent_by}
-use Rattle.tables.specs.declared.Found.{Found}
-use Rattle.tables.specs.declared.Found.TheVariants.{At as Place, Missing}
 use Rattle.tables.specs.Tables.{seek}
 use Rattle.state.specs.declared.Event.{Event}
 use Rattle.state.specs.declared.Event.TheVariants.{Read, Write, Deliver, Crash, Lose}
@@ -68,9 +66,9 @@ module _ (s : State) (e : Event) where
   never : (number : ℕ) → eqb number 0 ≡ false → Judged s e (outcome s number s)
   never number f = judged number s (λ z. absurd (eqb-false number 0 f z))
 
-deliver-judged : (s : State) (k : ℕ) (found : Found) → seek k 0 s.flight ≡ found → Judged s (Deliver k) (deliver_at s found)
-deliver-judged s k Missing e = never s (Deliver k) 12 refl
-deliver-judged s k (Place i) e =
+deliver-judged : (s : State) (k : ℕ) (found : Option ℕ) → seek k 0 s.flight ≡ found → Judged s (Deliver k) (deliver_at s found)
+deliver-judged s k None e = never s (Deliver k) 12 refl
+deliver-judged s k (Some i) e =
     let message = message_at s i in
     let r = receiver_of s i in
     judged s (Deliver k) _ _ λ z.
@@ -78,9 +76,9 @@ deliver-judged s k (Place i) e =
     (sym (received-answers s r message (deliver-passed s r (heard s r message) z)))
     (delivers k i e)
 
-lose-judged : (s : State) (k : ℕ) (found : Found) → seek k 0 s.flight ≡ found → Judged s (Lose k) (lose_at s found)
-lose-judged s k Missing e = never s (Lose k) 12 refl
-lose-judged s k (Place i) e = judged s (Lose k) _ _ λ z. loses k i e
+lose-judged : (s : State) (k : ℕ) (found : Option ℕ) → seek k 0 s.flight ≡ found → Judged s (Lose k) (lose_at s found)
+lose-judged s k None e = never s (Lose k) 12 refl
+lose-judged s k (Some i) e = judged s (Lose k) _ _ λ z. loses k i e
 
 pub step-judged : (s : State) (e : Event) → Judged s e (step s e)
 unfolding step step_read step_write step_deliver step_crash step_lose read_begun write_begun crashed

@@ -2,7 +2,7 @@
 -- delivered, plus those lost, plus those in flight; the first three are counted over the events, the last over the table." Here they are counted
 -- over the events: nothing below reads a counter of the state or what a handler sends. The rule is asked of any bench f, so that it is a promise and
 -- not a description of ours.
-use Rattle.std.specs.Prelude.{ℕ, ◌+◌, ◌≡◌, Bool, true, false, cond, ◌&&◌, List, [], ◌∷◌, eqb, leb, length}
+use Rattle.std.specs.Prelude.{ℕ, ◌+◌, ◌≡◌, Bool, true, false, cond, ◌&&◌, List, [], ◌∷◌, eqb, leb, length, Option, Some, None}
 use Rattle.words.specs.declared.Body.{Body}
 use Rattle.words.specs.declared.Body.TheVariants.{Query, Response, Update, Ack}
 use Rattle.words.specs.declared.Message.{Message}
@@ -11,8 +11,6 @@ use Rattle.words.specs.Ranges.{within}
 use Rattle.replica.specs.declared.Phase.{Phase}
 use Rattle.replica.specs.declared.Phase.TheVariants.{Idle, Querying, Updating}
 use Rattle.replica.specs.declared.Replica.{Replica}
-use Rattle.tables.specs.declared.Found.{Found}
-use Rattle.tables.specs.declared.Found.TheVariants.{At as Place, Missing}
 use Rattle.tables.specs.Tables.{seek}
 use Rattle.state.specs.declared.Event.{Event}
 use Rattle.state.specs.declared.Event.TheVariants.{Read, Write, Deliver, Crash, Lose}
@@ -57,9 +55,9 @@ sent_on_receipt s r message (Response pair) = cond (makes_query_majority s r mes
 sent_on_receipt s r message (Update x pair) = 1
 sent_on_receipt s r message Ack = 0
 
-abbrev pub sent_on_found : State → Found → ℕ
-sent_on_found s Missing = 0
-sent_on_found s (Place i) = sent_on_receipt s (receiver_of s i) (message_at s i) (message_at s i).body
+abbrev pub sent_on_found : State → Option ℕ → ℕ
+sent_on_found s None = 0
+sent_on_found s (Some i) = sent_on_receipt s (receiver_of s i) (message_at s i) (message_at s i).body
 
 abbrev pub sent_at : State → Event → ℕ
 sent_at s (Read p x) = s.n

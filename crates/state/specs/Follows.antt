@@ -1,10 +1,9 @@
 -- What an accepted event does: its rule, with no guard left. Laws of accepted events are proved over the cases of `Follows`.
-use Rattle.std.specs.Prelude.{ℕ, ◌+◌, ◌≡◌, [], ◌∷◌, ◌++◌, ℤ, length}
+use Rattle.std.specs.Prelude.{ℕ, ◌+◌, ◌≡◌, [], ◌∷◌, ◌++◌, ℤ, length, Some}
 use Rattle.words.specs.declared.Pid.{Pid}
 use Rattle.replica.specs.declared.Answer.{Answer}
 use Rattle.replica.specs.Handlers.{read_rule, write_rule, crash_rule}
 use Rattle.replica.specs.Numbers.{pointed}
-use Rattle.tables.specs.declared.Found.TheVariants.{At as Place}
 use Rattle.tables.specs.Tables.{seek, removed}
 use Rattle.state.specs.declared.Event.{Event}
 use Rattle.state.specs.declared.Event.TheVariants.{Read, Write, Deliver, Crash, Lose}
@@ -49,6 +48,6 @@ rule_at s i = rule_by s (receiver_of s i) (message_at s i) (message_at s i).body
 pub data Follows (s : State) : Event → State → Type 0 where
   reads : (p : Pid) (x : ℕ) → Follows s (Read p x) (after_read s p.0 x (read_of s p x))
   writes : (p : Pid) (x : ℕ) (value : ℤ) → Follows s (Write p x value) (after_write s p.0 x value (write_of s p x value))
-  delivers : (k i : ℕ) → seek k 0 s.flight ≡ Place i → Follows s (Deliver k) (after_deliver s i (rule_at s i))
+  delivers : (k i : ℕ) → seek k 0 s.flight ≡ Some i → Follows s (Deliver k) (after_deliver s i (rule_at s i))
   crashes : (p : Pid) → Follows s (Crash p) (after_crash s p.0 (crash_of s p))
-  loses : (k i : ℕ) → seek k 0 s.flight ≡ Place i → Follows s (Lose k) (without_message s i)
+  loses : (k i : ℕ) → seek k 0 s.flight ≡ Some i → Follows s (Lose k) (without_message s i)

@@ -1,8 +1,6 @@
 -- One event: document 01, "Events" and "Numbers of refusal". `step` is total: it gives the number of the first check that holds and the state as
 -- it was, or 0 and the next state. (18 and the test of well-formedness stand before it.)
-use Rattle.std.specs.Prelude.{ℕ, ◌+◌, ◌-◌, Bool, cond, not, ◌||◌, List, [], ◌∷◌, ◌++◌, eqb, ltb, leb, ℤ, pos, length, get_or, set}
-use Rattle.std.proofs.Math.Option
-use Rattle.std.proofs.Math.Option.{Option, some, none}
+use Rattle.std.specs.Prelude.{ℕ, ◌+◌, ◌-◌, Bool, cond, not, ◌||◌, List, [], ◌∷◌, ◌++◌, eqb, ltb, leb, ℤ, pos, length, get_or, set, Option, Some, None, unwrap_or}
 use Rattle.words.specs.declared.Message.{Message}
 use Rattle.words.specs.declared.Body.{Body}
 use Rattle.words.specs.declared.Body.TheVariants.{Query, Response, Update, Ack}
@@ -23,8 +21,6 @@ use Rattle.replica.specs.declared.Sends.{Sends}
 use Rattle.replica.specs.declared.Sends.TheVariants.{Nothing, Reply, Broadcast}
 use Rattle.replica.specs.Handlers.{is_idle, read_begun, write_begun, query_received, update_received, response_received, ack_received, crashed}
 use Rattle.replica.specs.Numbers.{sent_by, answered_at, chosen_by, ended_by, pointed}
-use Rattle.tables.specs.declared.Found.{Found}
-use Rattle.tables.specs.declared.Found.TheVariants.{At as Place, Missing}
 use Rattle.tables.specs.declared.Kind.{Kind}
 use Rattle.tables.specs.declared.Kind.TheVariants.{Read as ReadKind, Write as WriteKind}
 use Rattle.tables.specs.declared.Row.{Row}
@@ -79,12 +75,12 @@ write_row p x value clock = begun_row p WriteKind x clock (stamp_of clock p) val
 
 -- what an operation of a kind gives that ended with this pair: a read the chosen value, with its stamp; a write only "done"
 abbrev pub given : Kind → Pair → Option Pair
-given ReadKind pair = some pair
-given WriteKind pair = none
+given ReadKind pair = Some pair
+given WriteKind pair = None
 
 -- a completed read has the pair it chose; a write keeps its own
 abbrev pub kept : Kind → Row → Pair → Pair
-kept kind row pair = Option.get_or (given kind pair) (record { stamp = row.stamp; value = row.value })
+kept kind row pair = unwrap_or (given kind pair) (record { stamp = row.stamp; value = row.value })
 
 -- the operation in this row is complete: its update phase ended by the acks of this set
 abbrev pub completed : Row → Time → Pair → ℕ → Row
@@ -177,9 +173,9 @@ invoke_refusal s p x later =
     (check (no_room (length s.flight + s.n)) 15 later))))))
 
 -- no such message in flight
-abbrev pub found_refusal : Found → ℕ
-found_refusal Missing = 12
-found_refusal (Place i) = 0
+abbrev pub found_refusal : Option ℕ → ℕ
+found_refusal None = 12
+found_refusal (Some i) = 0
 
 abbrev pub deliver_refusal : State → Replica → Answer → ℕ
 deliver_refusal s r answer =
@@ -224,9 +220,9 @@ step_write s p x value =
     outcome s (invoke_refusal s p x answer.refusal)
     (moved s p answer s.flight s.delivered (s.rows ++ (write_row p x value answer.replica.clock.0 ∷ [])))
 
-abbrev pub deliver_at : State → Found → Outcome
-deliver_at s Missing = outcome s (found_refusal Missing) s
-deliver_at s (Place i) =
+abbrev pub deliver_at : State → Option ℕ → Outcome
+deliver_at s None = outcome s (found_refusal None) s
+deliver_at s (Some i) =
     let message = get_or s.flight i empty_message in
     let p = message.to.0 in
     let r = replica_of s p in
@@ -242,9 +238,9 @@ step_crash s p =
     let answer = crashed (replica_of s p) in
     outcome s (crash_refusal s p answer.refusal) (moved s p answer s.flight s.delivered s.rows)
 
-abbrev pub lose_at : State → Found → Outcome
-lose_at s Missing = outcome s (found_refusal Missing) s
-lose_at s (Place i) = outcome s (lose_refusal s (get_or s.flight i empty_message)) (without_message s i)
+abbrev pub lose_at : State → Option ℕ → Outcome
+lose_at s None = outcome s (found_refusal None) s
+lose_at s (Some i) = outcome s (lose_refusal s (get_or s.flight i empty_message)) (without_message s i)
 
 unfoldable pub step_lose : State → ℕ → Outcome
 step_lose s k = cond (full s) (outcome s 17 s) (lose_at s (seek k 0 s.flight))

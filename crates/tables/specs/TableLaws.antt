@@ -1,10 +1,9 @@
 -- Laws of lists that say what the loops over a table do, a step at a time: closing a gap, laying a list over another, seeking a number. Each says
 -- what is still to be done, so that nothing is said of what is done already.
-use Rattle.std.specs.Prelude.{◌≡◌, refl, ℕ, zero, suc, ◌+◌, ◌<◌, ◌≤◌, Bool, true, false, not, cond, List, [], ◌∷◌, ◌++◌, T, eqb, length, get_or, set, take, drop, replicate}
+use Rattle.std.specs.Prelude.{◌≡◌, refl, ℕ, zero, suc, ◌+◌, ◌<◌, ◌≤◌, Bool, true, false, not, cond, List, [], ◌∷◌, ◌++◌, T, eqb, length, get_or, set, take, drop, replicate, Some, None}
 use Rattle.std.proofs.Common.{sym, ap, subst, ◌∙◌, not-suc-le-zero, le_of_suc-le-suc, add-one, arith, append-nil, eqb→eq, take-append-drop, drop_of_length-le, length-take, drop-cons, get_or-take}
 use Rattle.std.proofs.lemmas.List.{length-replicate}
 use Rattle.words.specs.declared.Message.{Message}
-use Rattle.tables.specs.declared.Found.TheVariants.{At, Missing}
 use Rattle.tables.specs.Tables.{empty_message, seek, removed, laid_at}
 
 -- a test that held is `true`, and one that failed is `false`
@@ -74,29 +73,29 @@ module _ {D : Type 0} where
 
 -- ---- seeking: the message at i is the one, or it is not, or there is none left
 module _ (k i n : ℕ) (xs : List Message) where
-  pub seek_hit : i < n → n ≤ length xs → T (eqb (get_or xs i empty_message).number k) → seek k i (drop i (take n xs)) ≡ At i
-  seek_hit l le h = ap (seek k i) (next_of i n empty_message xs l le) ∙ ap (λ (t : Bool). cond t (At i) (seek k (suc i) (drop (suc i) (take n xs)))) (holds (eqb (get_or xs i empty_message).number k) h)
+  pub seek_hit : i < n → n ≤ length xs → T (eqb (get_or xs i empty_message).number k) → seek k i (drop i (take n xs)) ≡ Some i
+  seek_hit l le h = ap (seek k i) (next_of i n empty_message xs l le) ∙ ap (λ (t : Bool). cond t (Some i) (seek k (suc i) (drop (suc i) (take n xs)))) (holds (eqb (get_or xs i empty_message).number k) h)
 
   pub seek-miss : i < n → n ≤ length xs → T (not (eqb (get_or xs i empty_message).number k)) → seek k (i + 1) (drop (i + 1) (take n xs)) ≡ seek k i (drop i (take n xs))
   seek-miss l le h = ap (λ (j : ℕ). seek k j (drop j (take n xs))) (add-one i) ∙ sym (ap (seek k i) (next_of i n empty_message xs l le)
-      ∙ ap (λ (t : Bool). cond t (At i) (seek k (suc i) (drop (suc i) (take n xs)))) (fails (eqb (get_or xs i empty_message).number k) h))
+      ∙ ap (λ (t : Bool). cond t (Some i) (seek k (suc i) (drop (suc i) (take n xs)))) (fails (eqb (get_or xs i empty_message).number k) h))
 
-  pub seek-end : n ≤ i → seek k i (drop i (take n xs)) ≡ Missing
+  pub seek-end : n ≤ i → seek k i (drop i (take n xs)) ≡ None
   seek-end l = ap (seek k i) (drop_of_length-le (take n xs) {i = i} (omega (arith, length-take n xs)))
 
 -- ---- what is found is within, and has the number
 abbrev Hit : ℕ → ℕ → ℕ → List Message → Type 0
 Hit k s i xs = (j : ℕ) × ((s + j ≡ i) × ((j < length xs) × ((get_or xs j empty_message).number ≡ k)))
 
-hit-from : (k s i : ℕ) (xs : List Message) → At i ≡ seek k s xs → Hit k s i xs
+hit-from : (k s i : ℕ) (xs : List Message) → Some i ≡ seek k s xs → Hit k s i xs
 hit-from k s i [] h = let z : ◌≡◌ {A = ℕ} 0 1 = cc in absurd (omega arith)
 hit-from k s i (m ∷ ms) h = go (eqb m.number k) (λ t. eqb→eq m.number k t) (hit-from k (suc s) i ms) h
   where
-    go : (t : Bool) → (T t → m.number ≡ k) → (At i ≡ seek k (suc s) ms → Hit k (suc s) i ms) → At i ≡ cond t (At s) (seek k (suc s) ms) → Hit k s i (m ∷ ms)
+    go : (t : Bool) → (T t → m.number ≡ k) → (Some i ≡ seek k (suc s) ms → Hit k (suc s) i ms) → Some i ≡ cond t (Some s) (seek k (suc s) ms) → Hit k s i (m ∷ ms)
     go true e later h = (0, (let f : i ≡ s = cc in omega arith, (omega arith, e tt)))
     go false e later h = let (j, (f, (l, g))) = later h in (suc j, (omega arith, (omega arith, g)))
 
-pub seek-at : (k n i : ℕ) (xs : List Message) → At i ≡ seek k 0 (take n xs) → (i < n) × ((get_or xs i empty_message).number ≡ k)
+pub seek-at : (k n i : ℕ) (xs : List Message) → Some i ≡ seek k 0 (take n xs) → (i < n) × ((get_or xs i empty_message).number ≡ k)
 seek-at k n i xs h = found (hit-from k 0 i (take n xs) h)
   where
     found : Hit k 0 i (take n xs) → (i < n) × ((get_or xs i empty_message).number ≡ k)

@@ -1,14 +1,12 @@
 -- The two lent tables as lists: document 01, "State". Messages in flight lie in rising number without gaps; the places after the last hold the
 -- empty message (a query, all fields 0). Unused rows are all 0, their kind read.
-use Rattle.std.specs.Prelude.{ℕ, zero, suc, ◌+◌, cond, List, [], ◌∷◌, ◌++◌, eqb, pos, length, take, drop}
+use Rattle.std.specs.Prelude.{ℕ, zero, suc, ◌+◌, cond, List, [], ◌∷◌, ◌++◌, eqb, pos, length, take, drop, Option, Some, None}
 use Rattle.words.specs.declared.Message.{Message}
 use Rattle.words.specs.declared.Body.TheVariants.{Query}
 use Rattle.words.specs.Stamps.{start_stamp}
 use Rattle.tables.specs.declared.Replied.{Replied}
 use Rattle.tables.specs.declared.Row.{Row}
 use Rattle.tables.specs.declared.Kind.TheVariants.{Read}
-use Rattle.tables.specs.declared.Found.{Found}
-use Rattle.tables.specs.declared.Found.TheVariants.{At, Missing}
 
 abbrev pub empty_message : Message
 empty_message =
@@ -39,9 +37,9 @@ empty_row =
     }
 
 -- the place of the first message with the number k, counted from i
-abbrev pub seek : ℕ → ℕ → List Message → Found
-seek k i [] = Missing
-seek k i (m ∷ ms) = cond (eqb m.number k) (At i) (seek k (suc i) ms)
+abbrev pub seek : ℕ → ℕ → List Message → Option ℕ
+seek k i [] = None
+seek k i (m ∷ ms) = cond (eqb m.number k) (Some i) (seek k (suc i) ms)
 
 -- the list without its element at a place
 abbrev pub removed : {A : Type 0} → ℕ → List A → List A

@@ -34,12 +34,6 @@ pub struct Row {
     pub value: i64,
 }
 
-#[derive(Clone, Copy)]
-pub enum Found {
-    At(usize),
-    Missing,
-}
-
 // The message of an unused place.
 pub fn empty_message() -> Message
     ensures { result ≡ empty_message }
@@ -170,7 +164,7 @@ pub fn put_row(t: &mut [Row], i: usize, r: Row)
 }
 
 // The first place below n whose message has the number k.
-pub fn find(t: &[Message], n: usize, k: u32) -> Found
+pub fn find(t: &[Message], n: usize, k: u32) -> Option<usize>
     requires { n ≤ length t.now }
     ensures { result ≡ seek k 0 (take n t.now) }
 {
@@ -178,11 +172,11 @@ pub fn find(t: &[Message], n: usize, k: u32) -> Found
     while i < n {
         let m = message_at(t, i);
         if m.number == k {
-            return Found::At(i);
+            return Some(i);
         }
         i = i + 1;
     }
-    Found::Missing
+    None
 }
 
 // A message is taken out of the first n: each later one moves one place down, and the last place is emptied.

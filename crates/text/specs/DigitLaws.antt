@@ -67,6 +67,36 @@ places-left (suc left) n = go (ltb n 10) refl (places-left left (n / 10))
 pub decimal-short : (k n : ℕ) → n < tens (suc k) → length (decimal n) ≤ suc k
 decimal-short k n h = omega (arith, decimal-length n, places-most 20 k n h)
 
+-- one place more counts no more digits of a number that had enough
+places-enough : (left n : ℕ) → n < tens (suc left) → places (suc (suc left)) n ≡ places (suc left) n
+places-enough zero n h = places-one 1 n (omega arith) ∙ sym (places-one 0 n (omega arith))
+places-enough (suc left) n h = go (ltb n 10) refl (λ (l : n / 10 < tens (suc left)). places-enough left (n / 10) l)
+  where
+    go : (t : Bool) → ltb n 10 ≡ t → (n / 10 < tens (suc left) → places (suc (suc left)) (n / 10) ≡ places (suc left) (n / 10))
+        → places (suc (suc (suc left))) n ≡ places (suc (suc left)) n
+    go true e later = places-one (suc (suc left)) n (ltb-true n 10 e) ∙ sym (places-one (suc left) n (ltb-true n 10 e))
+    go false e later =
+        let more : 10 ≤ n = ltb-false n 10 e in
+        let less : n / 10 < tens (suc left) = omega arith in
+        places-more (suc (suc left)) n more ∙ ap suc (later less) ∙ sym (places-more (suc left) n more)
+
+-- a number of one digit
+pub decimal-digit : (n : ℕ) → n < 10 → (48 + n) ∷ [] ≡ decimal n
+unfolding decimal
+decimal-digit n h = simp (lt-ltb n 10 h)
+
+-- a number of more: what stands before the last digit, and the last digit
+pub decimal-step : (n : ℕ) → 10 ≤ n → n < tens 20 → decimal (n / 10) ++ ((48 + n % 10) ∷ []) ≡ decimal n
+unfolding last_digits
+decimal-step n more fits =
+    ap (λ (t : List ℕ). t ++ ((48 + n % 10) ∷ [])) (decimal-is (n / 10)) ∙ ap (λ (k : ℕ). last_digits k n) (sym counted) ∙ sym (decimal-is n)
+  where
+    less : n / 10 < tens 19
+    less = omega arith
+
+    counted : places 20 n ≡ suc (places 20 (n / 10))
+    counted = places-more 19 n more ∙ ap suc (sym (places-enough 18 (n / 10) less))
+
 -- counting: so many are counted, these are the digits before them, and so many are left at most
 abbrev pub Counting : ℕ → ℕ → ℕ → Type 0
 Counting n k rest = (left : ℕ) × (k + left ≡ 20) × (k + places (suc left) rest ≡ suc (places 20 n)) × (rest < tens (suc left))

@@ -1,5 +1,5 @@
 -- The digits of a number as they are counted and written: how many there are, and the last so many.
-use Rattle.std.specs.Prelude.{ℕ, zero, suc, ◌+◌, ◌/◌, ◌%◌, cond, List, [], ◌∷◌, ◌++◌, ltb}
+use Rattle.std.specs.Prelude.{ℕ, zero, suc, ◌+◌, ◌/◌, ◌%◌, cond, List, [], ◌∷◌, ◌++◌, ltb, ℤ, pos, negsuc}
 
 -- how many digits a number has, but no more than are left
 unfoldable pub places : ℕ → ℕ → ℕ
@@ -10,3 +10,8 @@ places (suc left) n = cond (ltb n 10) 1 (suc (places left (n / 10)))
 unfoldable pub last_digits : ℕ → ℕ → List ℕ
 last_digits zero n = []
 last_digits (suc k) n = last_digits k (n / 10) ++ ((48 + n % 10) ∷ [])
+
+-- what stands before the digits of a value: `-` where it is negative
+abbrev pub sign_text : ℤ → List ℕ
+sign_text (pos n) = []
+sign_text (negsuc n) = 45 ∷ []

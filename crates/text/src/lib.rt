@@ -5,6 +5,7 @@ pub mod bytes;
 pub mod lines;
 mod listing;
 pub mod numbers;
+pub mod page;
 mod registers;
 mod replicas;
 pub mod rows;

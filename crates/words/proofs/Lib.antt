@@ -1,2 +1,3 @@
 pub mod StampLaws
 pub mod RankLaws
+pub mod RefusalLaws

@@ -4,6 +4,7 @@ pub mod Quorum
 pub mod Ranges
 pub mod Stamps
 pub mod Rank
+pub mod Refusals
 -- Laws
 pub mod QuorumLaws
 pub mod RangeLaws

@@ -1,0 +1,6 @@
+use Rattle.std.proofs.Common.{arith}
+use Rattle.text.specs.DigitLaws.{decimal-short}
+use Rattle.text.proofs.numbers.U8Number.widened.Goals as goal
+
+pub returns-clause-short : goal.returns-clause-short
+returns-clause-short c = omega (arith, decimal-short 2 c.args.self (omega arith))

@@ -1,0 +1,94 @@
+// A page: a lent buffer, and how much of it is used. Each call writes behind that; what lies before it stays, and the buffer keeps its length.
+//
+// A function that writes a line takes the page, and promises the line:
+//
+//     fn put_x(page: &mut Page<'_>, ..)
+//         requires { Room 22 page.old }
+//         ensures { Adds (x_text ..) 22 page.old page.new }
+//
+// Its proof is one line: `adds_text refl (omega arith) (adds_next c.put_str.ensures (adds_next c.put_number.ensures c.put_byte.ensures))`, laws of
+// specs/PagedLaws.antt. A function that takes the buffer itself, `let mut page = Page { bytes: out, used: 0 }; put_x(&mut page, ..); page.used`,
+// promises `Wrote 0 (x_text ..) 22 out.old out.new result` with no proof.
+ghost use Rattle.std.specs.Prelude.{◌≡◌, ℕ, ◌+◌, ◌*◌, ◌≤◌, ◌<◌, ◌++◌, [], ◌∷◌, length};
+ghost use Rattle.text.specs.Paged.{Room, Adds};
+ghost use Rattle.text.specs.Printed.{decimal, number, signed, field};
+ghost use Rattle.text.specs.Short.{Short};
+ghost use Rattle.text.specs.Digits.{sign_text};
+
+use crate::numbers::Number;
+use words::Time;
+
+#[derive(Drop)]
+pub struct Page<'a> {
+    pub bytes: &'a mut [u8],
+    pub used: usize,
+}
+
+impl<'a> Page<'a> {
+    pub fn put_byte(&mut self, byte: u8)
+        requires { Room 1 self.old }
+        ensures { Adds (byte ∷ []) 1 self.old self.new }
+    {
+        self.bytes[self.used] = byte;
+        self.used += 1;
+    }
+
+    pub fn put_str(&mut self, text: &str)
+        requires { Room (length text.now) self.old }
+        ensures { Adds text.now (length text.now) self.old self.new }
+    {
+        let end = self.used + text.len();
+        self.bytes[self.used..end].copy_from_slice(text.as_bytes());
+        self.used = end;
+    }
+
+    pub fn put_decimal(&mut self, n: u64)
+        requires { Room (length (decimal n)) self.old }
+        ensures { Adds (decimal n) (length (decimal n)) self.old self.new }
+    {
+        if n < 10 {
+            return self.put_byte(b'0' + n as u8);
+        }
+        self.put_decimal(n / 10);
+        self.put_byte(b'0' + (n % 10) as u8);
+    }
+
+    // A space, and a number.
+    pub fn put_number<N: Number>(&mut self, n: N)
+        requires { Room N.most self.old }
+        ensures { Adds (number (N.value n)) N.most self.old self.new }
+    {
+        let widened = n.widened();
+        self.put_byte(b' ');
+        self.put_decimal(widened);
+    }
+
+    // A space, and a time, which has at most five digits.
+    pub fn put_time(&mut self, time: Time)
+        requires { Room 6 self.old × Short time.0 }
+        ensures { Adds (number time.0) 6 self.old self.new }
+    {
+        self.put_byte(b' ');
+        self.put_decimal(time.0 as u64);
+    }
+
+    // The sign of a negative value.
+    fn put_sign(&mut self, v: i64)
+        requires { Room 1 self.old }
+        ensures { Adds (sign_text v) 1 self.old self.new }
+    {
+        if v < 0 {
+            self.put_byte(b'-');
+        }
+    }
+
+    // A space, and a value, with its sign where it is negative.
+    pub fn put_value(&mut self, v: i64)
+        requires { Room 21 self.old }
+        ensures { Adds (field (signed v)) 21 self.old self.new }
+    {
+        self.put_byte(b' ');
+        self.put_sign(v);
+        self.put_decimal(v.unsigned_abs());
+    }
+}

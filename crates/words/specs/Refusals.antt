@@ -1,0 +1,25 @@
+-- Document 01's numbers of refusal. 0 is accepted, and no refusal has it.
+use Rattle.std.specs.Prelude.{ℕ}
+use Rattle.words.specs.declared.refusal.Refusal.{Refusal}
+use Rattle.words.specs.declared.refusal.Refusal.TheVariants.{WrongSize, WrongLength, WrongVersion, NoProcesses, NoRegisters, Unknown, Cut, NoProcess, NoRegister, Crashed, Pending, NoMessage, RecipientCrashed, BothUp, NoRoom, NoRow, Full, NotFormed, ShortOutput}
+
+abbrev pub number : Refusal → ℕ
+number WrongSize = 1
+number WrongLength = 2
+number WrongVersion = 3
+number NoProcesses = 4
+number NoRegisters = 5
+number Unknown = 6
+number Cut = 7
+number NoProcess = 8
+number NoRegister = 9
+number Crashed = 10
+number Pending = 11
+number NoMessage = 12
+number RecipientCrashed = 13
+number BothUp = 14
+number NoRoom = 15
+number NoRow = 16
+number Full = 17
+number NotFormed = 18
+number ShortOutput = 19
