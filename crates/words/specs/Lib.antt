@@ -5,6 +5,7 @@ pub mod Ranges
 pub mod Stamps
 pub mod Rank
 pub mod Refusals
+pub mod Stops
 -- Laws
 pub mod QuorumLaws
 pub mod RangeLaws
