@@ -1,5 +1,6 @@
 -- What a reader has to believe
 pub mod Limits
+pub mod Messages
 pub mod Quorum
 pub mod Ranges
 pub mod Stamps
