@@ -5,8 +5,8 @@ use Rattle.std.proofs.Common.{to_z}
 use Rattle.words.specs.Ranges.{within}
 use Rattle.state.specs.declared.Event.{Event}
 use Rattle.state.specs.declared.Event.TheVariants.{Read, Write, Deliver, Crash, Lose}
-use Rattle.format.specs.declared.Parse.{Parse}
-use Rattle.format.specs.declared.Parse.TheVariants.{Next, Refused, End}
+use Rattle.format.specs.Parse.{Parse}
+use Rattle.format.specs.Parse.{Next, Refused, End}
 
 abbrev pub byte_at : List ℕ → ℕ → ℕ
 byte_at bytes at = get_or bytes at 0

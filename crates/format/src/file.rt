@@ -1,56 +1,48 @@
 // The file as a whole: refused by 1 to 5, or not.
-ghost use Rattle.std.specs.Prelude.{◌≡◌, cond};
+ghost use Rattle.std.specs.Prelude.{◌≡◌};
 ghost use Rattle.format.specs.Format.{file_refusal};
+ghost use Rattle.format.specs.Parse.{refused};
 
 use crate::numbers::word_at;
 use words::limits::{PROCESSES, REGISTERS};
 use words::ranges::is_within;
-use words::refusal::{NO_PROCESSES, NO_REGISTERS, WRONG_LENGTH, WRONG_SIZE, WRONG_VERSION};
+use words::refusal::Refusal;
 
-const SHORTEST: usize = 7;
+// Length, version, N and M stand before the first event, so no file is shorter.
+pub const HEAD: usize = 7;
 
-const LONGEST: usize = 65536;
+pub const LONGEST: usize = 65536;
 
-const VERSION: u8 = 1;
+pub const VERSION: u8 = 1;
 
-// Bytes of the length field, and the places of the bytes behind it.
-const LENGTH_SIZE: usize = 4;
+// Bytes of the length field, which counts those that follow it; and the places of the bytes behind it.
+pub const LENGTH_SIZE: usize = 4;
 
 const VERSION_AT: usize = 4;
 
-const N_AT: usize = 5;
+pub const N_AT: usize = 5;
 
-const M_AT: usize = 6;
-
-// The first that holds is given.
-fn first(holds: bool, number: u8, later: u8) -> u8
-    ensures { result ≡ cond holds number later }
-{
-    if holds { number } else { later }
-}
+pub const M_AT: usize = 6;
 
 #[tactic(auto, unfolding(crate::specs::Format::file_refusal))]
-pub fn file_refusal(bytes: &[u8]) -> u8
-    ensures { result ≡ file_refusal bytes.now }
+pub fn file_refusal(bytes: &[u8]) -> Result<(), Refusal>
+    ensures { refused result ≡ file_refusal bytes.now }
 {
     let size = bytes.len();
-    if size < SHORTEST {
-        return WRONG_SIZE;
+    if (size < HEAD) | (LONGEST < size) {
+        return Err(Refusal::WrongSize);
     }
-    if LONGEST < size {
-        return WRONG_SIZE;
+    if word_at(bytes, 0) as usize != size - LENGTH_SIZE {
+        return Err(Refusal::WrongLength);
     }
-    let length_wrong = word_at(bytes, 0) as usize != size - LENGTH_SIZE;
-    let version_wrong = bytes[VERSION_AT] != VERSION;
-    let n_wrong = !is_within(bytes[N_AT], PROCESSES);
-    let m_wrong = !is_within(bytes[M_AT], REGISTERS);
-    first(
-        length_wrong,
-        WRONG_LENGTH,
-        first(
-            version_wrong,
-            WRONG_VERSION,
-            first(n_wrong, NO_PROCESSES, first(m_wrong, NO_REGISTERS, 0)),
-        ),
-    )
+    if bytes[VERSION_AT] != VERSION {
+        return Err(Refusal::WrongVersion);
+    }
+    if !is_within(bytes[N_AT], PROCESSES) {
+        return Err(Refusal::NoProcesses);
+    }
+    if !is_within(bytes[M_AT], REGISTERS) {
+        return Err(Refusal::NoRegisters);
+    }
+    Ok(())
 }

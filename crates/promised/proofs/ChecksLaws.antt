@@ -35,8 +35,8 @@ use Rattle.state.proofs.Keeps.{keeps}
 use Rattle.state.proofs.PairLaws.{within-ok}
 use Rattle.state.proofs.Sized.{Sized, keeps-sized}
 use Rattle.state.proofs.WellLaws.{Well, well}
-use Rattle.format.specs.declared.Parse.{Parse}
-use Rattle.format.specs.declared.Parse.TheVariants.{Next, Refused, End}
+use Rattle.format.specs.Parse.{Parse}
+use Rattle.format.specs.Parse.{Next, Refused, End}
 use Rattle.format.specs.Format.{byte_at, whole, event_at}
 use Rattle.schedule.specs.Run.{Ran, stopped, turned, ran_from}
 use Rattle.promised.specs.Checks.{Check, first_of, flight_after, delivery_checks, loss_checks, own_checks, event_checks}

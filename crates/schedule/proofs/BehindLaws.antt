@@ -6,8 +6,8 @@ use Rattle.state.specs.declared.Event.{Event}
 use Rattle.state.specs.State.{State}
 use Rattle.state.specs.Step.{step}
 use Rattle.state.proofs.Refusals.{refused-changes-nothing}
-use Rattle.format.specs.declared.Parse.{Parse}
-use Rattle.format.specs.declared.Parse.TheVariants.{Next, Refused, End}
+use Rattle.format.specs.Parse.{Parse}
+use Rattle.format.specs.Parse.{Next, Refused, End}
 use Rattle.schedule.specs.Run.{Ran, stopped, followed, turned, ran}
 use Rattle.schedule.specs.Turns.{Went, went}
 

@@ -9,8 +9,8 @@ use Rattle.state.specs.WellFormed.{well_formed}
 use Rattle.state.proofs.Keeps.{keeps}
 use Rattle.state.proofs.Sized.{Sized, keeps-sized}
 use Rattle.state.specs.Reached.{Reached, next as reaches}
-use Rattle.format.specs.declared.Parse.{Parse}
-use Rattle.format.specs.declared.Parse.TheVariants.{Next, Refused, End}
+use Rattle.format.specs.Parse.{Parse}
+use Rattle.format.specs.Parse.{Next, Refused, End}
 use Rattle.format.specs.Format.{event_at}
 use Rattle.schedule.specs.Run.{Ran, stopped, followed, turned, ran_from, ran}
 use Rattle.schedule.specs.EventLaws.{Onward, onward, at-the-end}

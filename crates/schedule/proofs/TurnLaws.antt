@@ -1,18 +1,18 @@
 -- What a turn that was carried out or stopped comes to; and that a run is its first turn and the run of the rest.
 use Rattle.std.specs.Prelude.{ℕ, suc, ◌-◌, ◌<◌, ◌≡◌, refl, Bool, true, false, cond, List, eqb, length}
 use Rattle.std.proofs.Common.{sym, ap, subst, ◌∙◌, arith}
-use Rattle.std.proofs.lemmas.Bool.{false≢true}
 use Rattle.words.specs.declared.Message.{Message}
 use Rattle.tables.specs.declared.Row.{Row}
 use Rattle.state.specs.declared.Bench.{Bench}
+use Rattle.state.specs.declared.Event.{Event}
 use Rattle.state.specs.declared.Stepped.{Stepped}
 use Rattle.state.specs.State.{State, view, laid_messages, laid_rows}
 use Rattle.state.specs.Step.{step}
 use Rattle.state.specs.Tabled.{tabled, bench_of}
 use Rattle.state.proofs.Sized.{Sized}
 use Rattle.state.specs.WellFormed.{well_formed}
-use Rattle.format.specs.declared.Parse.{Parse}
-use Rattle.format.specs.declared.Parse.TheVariants.{Next, Refused, End}
+use Rattle.format.specs.Parse.{Parse}
+use Rattle.format.specs.Parse.{Next, Refused, End}
 use Rattle.format.specs.Format.{event_at}
 use Rattle.advance.specs.Advanced.{Advanced}
 use Rattle.advance.specs.Good.{messages-are, rows_are, bench-is}
@@ -22,39 +22,38 @@ use Rattle.schedule.specs.EventLaws.{Onward, onward}
 use Rattle.schedule.proofs.BehindLaws.{left, left_by, turned_left}
 use Rattle.schedule.proofs.RunLaws.{run-turn, run-well-formed, run-sized}
 use Rattle.advance.proofs.TabledLaws.{step-well, step-sized, tabled-well, tabled-sized, holds-tabled, holds-view}
-use Rattle.schedule.specs.Turns.{RanOn, is_next, event_of, behind_of, number_of, went_on, stopped_at, begun_at, ended_at, Went, went, turn_of, Turned}
+use Rattle.schedule.specs.Turns.{RanOn, went_on, stopped_at, begun_at, ended_at, Went, went, turn_of, Turned}
 
 -- ---- of a bench and its tables
 
 on-is : (r : Stepped) (o : ℕ) (c : Bench) (at : ℕ) → r.refusal ≡ o → r.bench ≡ c → went_on r at ≡ record { go = eqb o 0; refusal = o; bench = c; at = at }
 on-is r o c at e f = rw (e, f) refl
 
-pub carried : (b : Bench) (parse : Parse) (messages : List Message) (rows : List Row) (t : Turn) (r : Stepped) (messages' : List Message) (rows' : List Row)
-    → is_next parse ≡ true → t ≡ went_on r (behind_of parse) → Advanced b (event_of parse) messages rows r messages' rows' → Turned b parse messages rows t messages' rows'
-carried b (Next event at) messages rows t r messages' rows' n e a =
+pub carried : (b : Bench) (event : Event) (at : ℕ) (messages : List Message) (rows : List Row) (t : Turn) (r : Stepped) (messages' : List Message) (rows' : List Row)
+    → t ≡ went_on r at → Advanced b event messages rows r messages' rows' → Turned b (Next event at) messages rows t messages' rows'
+carried b event at messages rows t r messages' rows' e a =
     record {
       turn = e ∙ on-is r (step (view b messages rows) event).refusal (bench_of (step (view b messages rows) event).state) at a.refusal a.bench;
       messages-laid = a.messages-laid;
       rows-laid = a.rows-laid;
     }
-carried b (Refused number) messages rows t r messages' rows' n e a = absurd (false≢true n)
-carried b End messages rows t r messages' rows' n e a = absurd (false≢true n)
 
-pub halted : (b : Bench) (parse : Parse) (messages : List Message) (rows : List Row) (t : Turn) → tabled b messages rows ≡ true → is_next parse ≡ false
-    → t ≡ stopped_at b (number_of parse) → Turned b parse messages rows t messages rows
-halted b (Next event at) messages rows t h n e = absurd (false≢true (sym n))
-halted b (Refused number) messages rows t h n e =
-    record {
+pub halted : (b : Bench) (found : Parse) (number : ℕ) (messages : List Message) (rows : List Row) (t : Turn) → tabled b messages rows ≡ true
+    → found ≡ Refused number → t ≡ stopped_at b number → Turned b found messages rows t messages rows
+halted b found number messages rows t h is e =
+    rw is
+    (record {
       turn = e ∙ ap (λ (c : Bench). stopped_at c number) (bench-is b messages rows h);
       messages-laid = messages-are b messages rows h;
       rows-laid = rows_are b messages rows h;
-    }
-halted b End messages rows t h n e =
-    record {
-      turn = e ∙ ap (λ (c : Bench). stopped_at c 0) (bench-is b messages rows h);
-      messages-laid = messages-are b messages rows h;
-      rows-laid = rows_are b messages rows h;
-    }
+    })
+
+-- the end stops a run as a refusal by 0 would
+pub halted-end : (b : Bench) (found : Parse) (messages : List Message) (rows : List Row) (t : Turn) → tabled b messages rows ≡ true
+    → found ≡ End → t ≡ stopped_at b 0 → Turned b found messages rows t messages rows
+halted-end b found messages rows t h is e =
+    let d = halted b (Refused 0) 0 messages rows t h refl e in
+    rw is (record { turn = d.turn; messages-laid = d.messages-laid; rows-laid = d.rows-laid })
 
 -- ---- of a state
 
@@ -86,25 +85,21 @@ pub begins : (b : Bench) (bytes : List ℕ) (at : ℕ) (messages : List Message)
 begins b bytes at messages rows t h e = subst (λ (u : Turn). Going bytes u messages rows (ran bytes at (view b messages rows))) (sym e) (record { tables = h; rest = refl })
 
 module _ (bytes : List ℕ) (t : Turn) (messages : List Message) (rows : List Row) (all : Ran) (g : Going bytes t messages rows all) (on : t.go ≡ true)
-    (parse : Parse) (is : parse ≡ event_at bytes t.at) (b : Bench) (held : b ≡ t.bench) (r : Turn) (messages' : List Message) (rows' : List Row)
-    (d : Turned b parse messages rows r messages' rows') where
+    (r : Turn) (messages' : List Message) (rows' : List Row) (d : Turned t.bench (event_at bytes t.at) messages rows r messages' rows') where
   abbrev s : State
   s = view t.bench messages rows
 
   abbrev w : Went
   w = went s (event_at bytes t.at)
 
-  d' : Turned t.bench (event_at bytes t.at) messages rows r messages' rows'
-  d' = subst (λ (c : Bench). Turned c (event_at bytes t.at) messages rows r messages' rows') held (subst (λ (x : Parse). Turned b x messages rows r messages' rows') is d)
-
   bench-of : r.bench ≡ bench_of w.state
-  bench-of = ap (λ (u : Turn). u.bench) d'.turn
+  bench-of = ap (λ (u : Turn). u.bench) d.turn
 
   view_of : view r.bench messages' rows' ≡ w.state
-  view_of = holds-view w.state r.bench messages' rows' (bench-of, d'.messages-laid, d'.rows-laid)
+  view_of = holds-view w.state r.bench messages' rows' (bench-of, d.messages-laid, d.rows-laid)
 
   rest_of : left bytes r.go r.refusal r.at (view r.bench messages' rows') ≡ left_by bytes w
-  rest_of = ap (left bytes r.go r.refusal r.at) view_of ∙ ap (λ (u : Turn). left bytes u.go u.refusal u.at w.state) d'.turn
+  rest_of = ap (left bytes r.go r.refusal r.at) view_of ∙ ap (λ (u : Turn). left bytes u.go u.refusal u.at w.state) d.turn
 
   run_is : ran bytes t.at s ≡ all
   run_is = sym (ap (λ (c : Bool). left bytes c t.refusal t.at s) on) ∙ g.rest
@@ -112,7 +107,7 @@ module _ (bytes : List ℕ) (t : Turn) (messages : List Message) (rows : List Ro
   pub goes : Going bytes r messages' rows' all
   goes =
       record {
-        tables = holds-tabled w.state r.bench messages' rows' (bench-of, d'.messages-laid, d'.rows-laid)
+        tables = holds-tabled w.state r.bench messages' rows' (bench-of, d.messages-laid, d.rows-laid)
             (went-well s (event_at bytes t.at) (tabled-well t.bench messages rows g.tables))
             (went-sized s (event_at bytes t.at) (tabled-sized t.bench messages rows g.tables));
         rest = rest_of ∙ run-left bytes t.at s ∙ run_is;
@@ -130,7 +125,7 @@ module _ (bytes : List ℕ) (t : Turn) (messages : List Message) (rows : List Ro
   pub smaller : measure bytes r < measure bytes t
   smaller =
       subst (λ (c : Bool). measure bytes r < cond c (suc (length bytes - t.at)) 0) (sym on)
-      (subst (λ (u : Turn). measure bytes u < suc (length bytes - t.at)) (sym d'.turn) (nearer (event_at bytes t.at) (onward bytes t.at)))
+      (subst (λ (u : Turn). measure bytes u < suc (length bytes - t.at)) (sym d.turn) (nearer (event_at bytes t.at) (onward bytes t.at)))
 
 pub ends : (b : Bench) (bytes : List ℕ) (at : ℕ) (messages : List Message) (rows : List Row) (t : Turn) (messages' : List Message) (rows' : List Row)
     → Going bytes t messages' rows' (ran bytes at (view b messages rows)) → t.go ≡ false → (r : Stepped) → r ≡ ended_at t

@@ -2,8 +2,8 @@
 use Rattle.std.specs.Prelude.{ℕ, zero, suc, ◌-◌, cond, List, eqb, length}
 use Rattle.state.specs.State.{State}
 use Rattle.state.specs.Step.{Outcome, step}
-use Rattle.format.specs.declared.Parse.{Parse}
-use Rattle.format.specs.declared.Parse.TheVariants.{Next, Refused, End}
+use Rattle.format.specs.Parse.{Parse}
+use Rattle.format.specs.Parse.{Next, Refused, End}
 use Rattle.format.specs.Format.{event_at, parse_refusal}
 
 -- the number of refusal, 0 if the end was reached, and the state after the last accepted event

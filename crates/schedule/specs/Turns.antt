@@ -3,15 +3,12 @@ use Rattle.std.specs.Prelude.{ℕ, ◌≡◌, Bool, true, false, List, eqb}
 use Rattle.words.specs.declared.Message.{Message}
 use Rattle.tables.specs.declared.Row.{Row}
 use Rattle.state.specs.declared.Bench.{Bench}
-use Rattle.state.specs.declared.Event.{Event}
-use Rattle.state.specs.declared.Event.TheVariants.{Deliver}
 use Rattle.state.specs.declared.Stepped.{Stepped}
 use Rattle.state.specs.State.{State, view, laid_messages, laid_rows}
 use Rattle.state.specs.Step.{step}
 use Rattle.state.specs.Tabled.{bench_of}
-use Rattle.format.specs.declared.Parse.{Parse}
-use Rattle.format.specs.declared.Parse.TheVariants.{Next, Refused, End}
-use Rattle.format.specs.Format.{parse_refusal}
+use Rattle.format.specs.Parse.{Parse}
+use Rattle.format.specs.Parse.{Next, Refused, End}
 use Rattle.schedule.specs.declared.Turn.{Turn}
 use Rattle.schedule.specs.Run.{ran}
 
@@ -22,26 +19,6 @@ pub record RanOn (b : Bench) (bytes : List ℕ) (at : ℕ) (messages : List Mess
   pub bench : r.bench ≡ bench_of (ran bytes at (view b messages rows)).state
   pub messages-laid : messages' ≡ laid_messages (ran bytes at (view b messages rows)).state
   pub rows-laid : rows' ≡ laid_rows (ran bytes at (view b messages rows)).state
-
--- ---- the parts of what stands at a place; where no event stands, another one stands in
-
-abbrev pub is_next : Parse → Bool
-is_next (Next event at) = true
-is_next (Refused number) = false
-is_next End = false
-
-abbrev pub event_of : Parse → Event
-event_of (Next event at) = event
-event_of (Refused number) = Deliver 0
-event_of End = Deliver 0
-
-abbrev pub behind_of : Parse → ℕ
-behind_of (Next event at) = at
-behind_of (Refused number) = 0
-behind_of End = 0
-
-abbrev pub number_of : Parse → ℕ
-number_of parse = parse_refusal parse
 
 -- ---- the parts of a turn
 

@@ -4,18 +4,17 @@
 ghost use Rattle.std.specs.Prelude.{◌≡◌, true, length};
 ghost use Rattle.state.specs.Tabled.{tabled};
 ghost use Rattle.schedule.specs.Opening.{run_reply, run_messages, run_rows};
-ghost use Rattle.schedule.specs.Turns.{is_next, Turned, RanOn};
+ghost use Rattle.format.specs.Format.{event_at};
+ghost use Rattle.schedule.specs.Turns.{Turned, RanOn};
 
-use format::{Parse, events};
+use format::events::event_at;
+use format::file::HEAD;
 use state::{Bench, Stepped};
 use tables::{Row, clear_messages, clear_rows, message_count, row_count};
 use words::Message;
 
 mod opening;
 mod turns;
-
-// Events stand behind length, version, N and M.
-const FIRST_EVENT: usize = 7;
 
 // What one turn comes to: whether the run goes on, and at which place; the number of refusal, and the bench.
 #[derive(Clone, Copy)]
@@ -26,28 +25,19 @@ pub struct Turn {
     pub at: usize,
 }
 
-// A turn that is an event.
-fn carry_out(messages: &mut [Message], rows: &mut [Row], bench: Bench, parse: Parse) -> Turn
-    requires { (tabled bench messages.old rows.old ≡ true) × (is_next parse ≡ true) }
-    ensures { Turned bench parse messages.old rows.old result messages.new rows.new }
-{
-    let event = turns::event_of(parse);
-    let at = turns::behind(parse);
-    let stepped = advance::advance(&mut *messages, &mut *rows, bench, event);
-    turns::went_on(stepped, at)
-}
-
 // One turn, after what the last one came to: an event is carried out, all else stops the run.
-fn one_event(messages: &mut [Message], rows: &mut [Row], last: Turn, parse: Parse) -> Turn
+fn one_event(messages: &mut [Message], rows: &mut [Row], last: Turn, bytes: &[u8]) -> Turn
     requires { tabled last.bench messages.old rows.old ≡ true }
-    ensures { Turned last.bench parse messages.old rows.old result messages.new rows.new }
+    ensures { Turned last.bench (event_at bytes.now last.at) messages.old rows.old result messages.new rows.new }
 {
-    let bench = turns::bench_in(last);
-    if turns::is_next(parse) {
-        return carry_out(&mut *messages, &mut *rows, bench, parse);
+    match event_at(bytes, last.at) {
+        Ok(Some((event, behind))) => {
+            let stepped = advance::advance(messages, rows, last.bench, event);
+            turns::went_on(stepped, behind)
+        }
+        Ok(None) => turns::stop(last.bench, 0),
+        Err(refusal) => turns::stop(last.bench, refusal.number()),
     }
-    let number = turns::number_of(parse);
-    turns::stop(bench, number)
 }
 
 // The events from a place on, up to the end or the first refusal.
@@ -63,10 +53,7 @@ pub fn run_events(
 {
     let mut turn = turns::begun(bench, at);
     while turns::goes_on(turn) {
-        let place = turns::place_in(turn);
-        let parse = events::event_at(bytes, place);
-        let next = one_event(&mut *messages, &mut *rows, turn, parse);
-        turn = next;
+        turn = one_event(&mut *messages, &mut *rows, turn, bytes);
     }
     turns::ended(turn)
 }
@@ -84,7 +71,7 @@ pub fn run(messages: &mut [Message], rows: &mut [Row], bytes: &[u8]) -> Stepped
         clear_messages(&mut *messages);
         clear_rows(&mut *rows);
         let bench = opening::bench_of(opened);
-        return run_events(&mut *messages, &mut *rows, bench, bytes, FIRST_EVENT);
+        return run_events(&mut *messages, &mut *rows, bench, bytes, HEAD);
     }
     opened
 }

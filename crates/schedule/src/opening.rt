@@ -3,7 +3,7 @@ ghost use Rattle.std.specs.Prelude.{◌≡◌, eqb};
 ghost use Rattle.schedule.specs.Opening.{opening_refusal, opened};
 
 use bench::fresh::fresh_bench;
-use format::file::file_refusal;
+use format::file::{M_AT, N_AT, file_refusal};
 use state::{Bench, Stepped};
 use words::limits::{MESSAGE_PLACES, ROW_PLACES};
 use words::refusal::NOT_FORMED;
@@ -13,7 +13,10 @@ fn opening_refusal(bytes: &[u8], places: usize, history: usize) -> u8
     ensures { result ≡ opening_refusal places history bytes.now }
 {
     if (places == MESSAGE_PLACES) & (history == ROW_PLACES) {
-        return file_refusal(bytes);
+        return match file_refusal(bytes) {
+            Ok(()) => 0,
+            Err(refusal) => refusal.number(),
+        };
     }
     NOT_FORMED
 }
@@ -26,7 +29,7 @@ pub fn opening(bytes: &[u8], places: usize, history: usize) -> Stepped
     if refusal == 0 {
         return Stepped {
             refusal: 0,
-            bench: fresh_bench(bytes[5], bytes[6]),
+            bench: fresh_bench(bytes[N_AT], bytes[M_AT]),
         };
     }
     Stepped {

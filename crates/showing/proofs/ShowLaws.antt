@@ -7,8 +7,8 @@ use Rattle.text.specs.Printed.{printed_refusal}
 use Rattle.text.specs.Written.{Wrote}
 use Rattle.text.specs.WrittenLaws.{and_next, as_text, nothing}
 use Rattle.state.specs.declared.Event.{Event}
-use Rattle.format.specs.declared.Parse.{Parse}
-use Rattle.format.specs.declared.Parse.TheVariants.{Next, Refused, End}
+use Rattle.format.specs.Parse.{Parse}
+use Rattle.format.specs.Parse.{Next, Refused, End}
 use Rattle.format.specs.Format.{byte_at, file_refusal, event_at}
 use Rattle.writing.specs.Bytes.{event_bytes}
 use Rattle.writing.specs.Reading.{Reading, behind, turned, read_from, read_out}

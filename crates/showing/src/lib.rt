@@ -9,18 +9,14 @@ ghost use Rattle.writing.specs.Reading.{read_out};
 ghost use Rattle.showing.specs.Shown.{reading_text, shown};
 
 use buffer::{Printed, SHORT_OUTPUT};
-use format::Parse;
 use format::events::event_at;
-use format::file::file_refusal;
+use format::file::{HEAD, M_AT, N_AT, file_refusal};
 use text::lines::put_refusal;
 
 mod lines;
 
 // No text is longer: a file has at most 65,536 bytes, and each gives at most 6.
 pub const LONGEST_TEXT: usize = 393216;
-
-// Bytes before the first event.
-const HEAD: usize = 7;
 
 // The lines of the events, read to the end, or to bytes that are no event.
 fn put_reading(buf: &mut [u8], at: usize, bytes: &[u8]) -> usize
@@ -31,17 +27,16 @@ fn put_reading(buf: &mut [u8], at: usize, bytes: &[u8]) -> usize
     let mut next = at;
     let mut place = HEAD;
     loop {
-        let parse = event_at(bytes, place);
-        match parse {
-            Parse::Next(event, behind) => {
+        match event_at(bytes, place) {
+            Ok(Some((event, behind))) => {
                 next = lines::put_event_line(&mut *buf, next, event);
                 place = behind;
             }
-            Parse::Refused(number) => {
-                return put_refusal(&mut *buf, next, number);
-            }
-            Parse::End => {
+            Ok(None) => {
                 return next;
+            }
+            Err(refusal) => {
+                return put_refusal(&mut *buf, next, refusal.number());
             }
         }
     }
@@ -52,12 +47,13 @@ fn show_into(out: &mut [u8], bytes: &[u8]) -> usize
     requires { 393216 ≤ length out.old }
     ensures { Wrote 0 (shown bytes.now) 393216 out.old out.new result }
 {
-    let refusal = file_refusal(bytes);
-    if refusal != 0 {
-        return put_refusal(&mut *out, 0, refusal);
+    match file_refusal(bytes) {
+        Ok(()) => {
+            let at = lines::put_bench_line(&mut *out, 0, bytes[N_AT], bytes[M_AT]);
+            put_reading(&mut *out, at, bytes)
+        }
+        Err(refusal) => put_refusal(&mut *out, 0, refusal.number()),
     }
-    let at = lines::put_bench_line(&mut *out, 0, bytes[5], bytes[6]);
-    put_reading(&mut *out, at, bytes)
 }
 
 // The text of a schedule file, at the front of a lent output. An output of fewer than 393,216 bytes is refused by 19 and left as it was.

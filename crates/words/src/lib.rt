@@ -10,33 +10,35 @@ pub mod stamps;
 
 // Logical times, request numbers and process numbers are counted apart (lt, rid and i of Algorithm 1), and none is taken for another.
 #[repr(C)]
-#[derive(Clone, Copy)]
+#[derive(Clone, Copy, Debug, Default, PartialEq, Eq, PartialOrd, Ord)]
 pub struct Time(pub u32);
 
 #[repr(C)]
-#[derive(Clone, Copy)]
+#[derive(Clone, Copy, Debug, Default, PartialEq, Eq)]
 pub struct Rid(pub u32);
 
 #[repr(C)]
-#[derive(Clone, Copy)]
+#[derive(Clone, Copy, Debug, Default, PartialEq, Eq, PartialOrd, Ord)]
 pub struct Pid(pub u8);
 
+// The order of the fields is the order of stamps: by time, then by process.
 #[repr(C)]
-#[derive(Clone, Copy)]
+#[derive(Clone, Copy, Debug, Default, PartialEq, Eq, PartialOrd, Ord)]
 pub struct Stamp {
     pub time: Time,
     pub process: Pid,
 }
 
+// The default is the starting pair, ((0, 0), 0).
 #[repr(C)]
-#[derive(Clone, Copy)]
+#[derive(Clone, Copy, Debug, Default, PartialEq, Eq)]
 pub struct Pair {
     pub stamp: Stamp,
     pub value: i64,
 }
 
 // What a message says: a register; a stamp and a value; all three; or nothing.
-#[derive(Clone, Copy)]
+#[derive(Clone, Copy, Debug, PartialEq, Eq)]
 pub enum Body {
     Query(u8),
     Response(Pair),
@@ -46,7 +48,7 @@ pub enum Body {
 
 // The envelope, and the body inside.
 #[repr(C)]
-#[derive(Clone, Copy)]
+#[derive(Clone, Copy, Debug, PartialEq, Eq)]
 pub struct Message {
     pub number: u32,
     pub from: Pid,

@@ -5,7 +5,7 @@ use Rattle.std.specs.Int.{w64}
 use Rattle.std.proofs.lemmas.Bool.{lt-leb}
 use Rattle.state.specs.declared.Event.{Event}
 use Rattle.state.specs.declared.Event.TheVariants.{Read, Write, Deliver, Crash, Lose}
-use Rattle.format.specs.declared.Parse.TheVariants.{Next, Refused}
+use Rattle.format.specs.Parse.{Next, Refused}
 use Rattle.format.specs.Format.{event_at}
 use Rattle.writing.specs.Bytes.{word_bytes, value_bytes, event_bytes}
 use Rattle.writing.specs.Held.{Bytes, Held}

@@ -4,8 +4,8 @@ use Rattle.std.proofs.Common.{sym, ap, subst, leb-true}
 use Rattle.std.proofs.lemmas.Bool.{eqb-false}
 use Rattle.state.specs.declared.Event.{Event}
 use Rattle.state.specs.declared.Event.TheVariants.{Read, Write, Deliver, Crash, Lose}
-use Rattle.format.specs.declared.Parse.{Parse}
-use Rattle.format.specs.declared.Parse.TheVariants.{Next, Refused, End}
+use Rattle.format.specs.Parse.{Parse}
+use Rattle.format.specs.Parse.{Next, Refused, End}
 use Rattle.format.specs.Format.{byte_at, word_at, value_of, whole, event_at}
 use Rattle.writing.specs.Bytes.{event_bytes}
 use Rattle.writing.proofs.SizeLaws.{read-size, write-size, deliver-size, crash-size, lose-size}

@@ -1,8 +1,8 @@
 -- The events of a file, read to the end: what `format` finds at each place, one after another, until the end, or until bytes that are no event (6, 7).
 use Rattle.std.specs.Prelude.{ℕ, zero, suc, List, [], ◌∷◌, length}
 use Rattle.state.specs.declared.Event.{Event}
-use Rattle.format.specs.declared.Parse.{Parse}
-use Rattle.format.specs.declared.Parse.TheVariants.{Next, Refused, End}
+use Rattle.format.specs.Parse.{Parse}
+use Rattle.format.specs.Parse.{Next, Refused, End}
 use Rattle.format.specs.Format.{event_at}
 
 -- the events, and the number by which reading stopped, 0 at the end

@@ -4,8 +4,8 @@ use Rattle.schedule.specs.Run.{ran}
 use Rattle.schedule.proofs.TurnLaws.{measure, Going}
 use Rattle.schedule.proofs.run_events.Given as goal
 
-abbrev pub invariant-loop-place : goal.invariant-loop-place
-invariant-loop-place l = Going l.bytes l.turn l.messages l.rows (ran l.bytes l.at (view l.fn.bench l.fn.messages l.fn.rows))
+abbrev pub invariant-loop-messages : goal.invariant-loop-messages
+invariant-loop-messages l = Going l.bytes l.turn l.messages l.rows (ran l.bytes l.at (view l.fn.bench l.fn.messages l.fn.rows))
 
-abbrev pub decreases-loop-place : goal.decreases-loop-place
-decreases-loop-place l = measure l.bytes l.turn
+abbrev pub decreases-loop-messages : goal.decreases-loop-messages
+decreases-loop-messages l = measure l.bytes l.turn

@@ -1,5 +1,7 @@
-use Rattle.std.proofs.Common.{refl, sym, arith}
+use Rattle.std.proofs.Common.{◌≡◌, refl, sym, arith}
 use borrow.Author.Rules.{rules}
+use Rattle.format.specs.Format.{event_at}
+use Rattle.format.specs.Parse.{Next, End}
 use Rattle.showing.proofs.ShowLaws.{starts, room_for, nearer, goes_on, stops, ends}
 use Rattle.showing.proofs.put_reading.Goals as goal
 
@@ -9,27 +11,31 @@ loop-event-init c =
 
 pub put_event_line-next-requires : goal.put_event_line-next-requires
 put_event_line-next-requires c =
-    room_for c.args.at c.args.bytes.now c.args.buf.now c.loop-event.buf c.loop-event.next c.loop-event.place c.loop-event.invariant.shows c.in-Next.event c.in-Next.behind
-    (sym c.in-Next.ensures) (omega arith)
+    let found : event_at c.args.bytes.now c.loop-event.place ≡ Next c.in-Ok-Some.event c.in-Ok-Some.behind = sym (rw c.in-Ok-Some.field-0-is at c.in-Ok-Some.ensures) in
+    room_for c.args.at c.args.bytes.now c.args.buf.now c.loop-event.buf c.loop-event.next c.loop-event.place c.loop-event.invariant.shows c.in-Ok-Some.event c.in-Ok-Some.behind
+    found (omega arith)
 
 pub loop-event-smaller : goal.loop-event-smaller
 loop-event-smaller c =
-    nearer c.args.at c.args.bytes.now c.args.buf.now c.loop-event.buf c.loop-event.next c.loop-event.place c.loop-event.invariant.shows c.in-Next.event c.in-Next.behind (sym c.in-Next.ensures)
+    let found : event_at c.args.bytes.now c.loop-event.place ≡ Next c.in-Ok-Some.event c.in-Ok-Some.behind = sym (rw c.in-Ok-Some.field-0-is at c.in-Ok-Some.ensures) in
+    nearer c.args.at c.args.bytes.now c.args.buf.now c.loop-event.buf c.loop-event.next c.loop-event.place c.loop-event.invariant.shows c.in-Ok-Some.event c.in-Ok-Some.behind found
 
 pub loop-event-preserved : goal.loop-event-preserved
 loop-event-preserved c =
+    let found : event_at c.args.bytes.now c.loop-event.place ≡ Next c.in-Ok-Some.event c.in-Ok-Some.behind = sym (rw c.in-Ok-Some.field-0-is at c.in-Ok-Some.ensures) in
     record {
       long = search rules;
       shows =
-          goes_on c.args.at c.args.bytes.now c.args.buf.now c.loop-event.buf c.loop-event.next c.loop-event.place c.loop-event.invariant.shows c.in-Next.event c.in-Next.behind
-          (sym c.in-Next.ensures) c.put_event_line-next.new.buf c.put_event_line-next.result c.put_event_line-next.ensures;
+          goes_on c.args.at c.args.bytes.now c.args.buf.now c.loop-event.buf c.loop-event.next c.loop-event.place c.loop-event.invariant.shows c.in-Ok-Some.event c.in-Ok-Some.behind
+          found c.put_event_line-next.new.buf c.put_event_line-next.result c.put_event_line-next.ensures;
     }
 
-pub returns-in-Refused : goal.returns-in-Refused
-returns-in-Refused c =
-    stops c.args.at c.args.bytes.now c.args.buf.now c.loop-event.buf c.loop-event.next c.loop-event.place c.loop-event.invariant.shows c.in-Refused.number (sym c.in-Refused.ensures)
-    c.put_refusal.new.buf c.put_refusal.result c.put_refusal.ensures
+pub returns-in-Ok-None : goal.returns-in-Ok-None
+returns-in-Ok-None c =
+    let found : event_at c.args.bytes.now c.loop-event.place ≡ End = sym (rw c.in-Ok-None.field-0-is at c.in-Ok-None.ensures) in
+    ends c.args.at c.args.bytes.now c.args.buf.now c.loop-event.buf c.loop-event.next c.loop-event.place c.loop-event.invariant.shows found
 
-pub returns-in-End : goal.returns-in-End
-returns-in-End c =
-    ends c.args.at c.args.bytes.now c.args.buf.now c.loop-event.buf c.loop-event.next c.loop-event.place c.loop-event.invariant.shows (sym c.in-End.ensures)
+pub returns-in-Err : goal.returns-in-Err
+returns-in-Err c =
+    stops c.args.at c.args.bytes.now c.args.buf.now c.loop-event.buf c.loop-event.next c.loop-event.place c.loop-event.invariant.shows _ (sym c.in-Err.ensures)
+    c.put_refusal.new.buf c.put_refusal.result (rw c.number.ensures at c.put_refusal.ensures)
