@@ -1,6 +1,5 @@
 -- What a reader has to believe
 pub mod Advanced
-pub mod Stepped
 -- How the code does it: the parts of a step
 pub mod Parts
 -- Laws

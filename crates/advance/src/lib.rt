@@ -5,7 +5,7 @@ ghost use Rattle.std.specs.Prelude.{◌≡◌, true, ◌≤◌, length};
 ghost use Rattle.state.specs.Tabled.{tabled};
 ghost use Rattle.advance.specs.Advanced.{Advanced};
 ghost use Rattle.advance.specs.Parts.{Bounded, Takes, Posts, taken_off, left_of, posted_at, carried_rows, carried_bench, put_back};
-ghost use Rattle.advance.specs.Stepped.{stepped};
+ghost use Rattle.state.specs.Stepped.{stepped};
 
 use decide::stub::Stub;
 use decide::{Plan, View};
