@@ -7,7 +7,6 @@ ghost use Rattle.advance.specs.Advanced.{Advanced};
 ghost use Rattle.advance.specs.Parts.{Bounded, Takes, Posts, taken_off, left_of, posted_at, carried_rows, carried_bench, put_back};
 ghost use Rattle.state.specs.Stepped.{stepped};
 
-use decide::stub::Stub;
 use decide::{Plan, View};
 use replica::Replica;
 use state::{Bench, Event};
@@ -91,7 +90,7 @@ fn moved(bench: Bench, event: Event, plan: Plan, left: usize) -> Bench
 }
 
 // One event, carried out on the bench and the two tables that it is tabled in.
-pub fn advance<S: Stub>(
+pub fn advance(
     messages: &mut [Message],
     rows: &mut [Row],
     bench: Bench,
@@ -105,7 +104,7 @@ pub fn advance<S: Stub>(
         flight: &messages[..bench.flight as usize],
         rows: &rows[..bench.rows as usize],
     };
-    let plan = view.plan_of::<S>(event)?;
+    let plan = view.plan_of(event)?;
     let left = take(messages, bench.flight as usize, plan.taken);
     post(messages, left, plan.posted);
     write(rows, plan.row);

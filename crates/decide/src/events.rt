@@ -1,46 +1,25 @@
 // The plan of each event.
 ghost use Rattle.std.specs.Prelude.{◌≡◌, false};
-ghost use Rattle.replica.specs.Answers.{answer as answer_of};
+ghost use Rattle.replica.specs.Answer.{answer, answered};
 ghost use Rattle.tables.specs.Tables.{seek};
-ghost use Rattle.state.specs.State.{replica_of, fresh_replica};
+ghost use Rattle.state.specs.State.{replica_of};
 ghost use Rattle.state.specs.Step.{full, heard};
 ghost use Rattle.decide.specs.Plan.{seen, numbered, accepted_plan, checked, begun, invoke_plan, deliver_plan, crash_plan, lose_plan, plan_of};
 
 use crate::checks::is_over;
-use crate::stub::Stub;
 use crate::{Plan, View, rows};
-use replica::{Handled, Phase, Replica};
+use replica::{Handled, Replica};
 use state::Event;
 use tables::Row;
 use words::refusal::Refusal;
-use words::{Body, Message, Pair, Pid, Rid, Stamp, Time};
+use words::{Body, Message, Pid};
 
-fn fresh_replica() -> Replica
-    ensures { result ≡ fresh_replica }
-{
-    let start = Pair {
-        stamp: Stamp {
-            time: Time(0),
-            process: Pid(0),
-        },
-        value: 0,
-    };
-    Replica {
-        crashed: false,
-        clock: Time(0),
-        rid: Rid(0),
-        phase: Phase::Idle,
-        repliers: 0,
-        pairs: [start; 16],
-    }
-}
-
-fn begin<S: Stub>(r: Replica, p: Pid, x: u8, number: u16, written: Option<i64>) -> Result<Handled, Refusal>
-    ensures { answer_of r result ≡ begun r p x number written }
+fn begin(r: Replica, p: Pid, x: u8, number: u16, written: Option<i64>) -> Result<Handled, Refusal>
+    ensures { answer r result ≡ begun r p x number written }
 {
     match written {
-        None => S::begin_read(r, x, number),
-        Some(value) => S::begin_write(r, p, x, value, number),
+        None => r.begin_read(x, number),
+        Some(value) => r.begin_write(p, x, value, number),
     }
 }
 
@@ -51,13 +30,19 @@ impl View<'_> {
     {
         match self.bench.replicas.get(p.0.saturating_sub(1) as usize) {
             Some(r) => *r,
-            None => fresh_replica(),
+            None => Replica::default(),
         }
     }
 
     // What p's handler says is carried out, the message that it answers is taken off, if it answers one, and a row is written.
-    fn accept(self, p: Pid, taken: Option<usize>, handled: Handled, row: Option<(usize, Row)>) -> Plan
-        ensures { result ≡ accepted_plan (seen self.entry) p taken (answer_of handled.replica (Ok handled)) row }
+    fn accept(
+        self,
+        p: Pid,
+        taken: Option<usize>,
+        handled: Handled,
+        row: Option<(usize, Row)>,
+    ) -> Plan
+        ensures { result ≡ accepted_plan (seen self.entry) p taken (answered handled) row }
     {
         Plan {
             replica: Some((p, handled.replica)),
@@ -69,38 +54,41 @@ impl View<'_> {
 
     // An operation begins: a read, or the write of a value.
     #[tactic(auto, unfolding(crate::specs::Plan::invoke_plan))]
-    fn invoke_plan<S: Stub>(self, p: Pid, x: u8, written: Option<i64>) -> Result<Plan, Refusal>
+    fn invoke_plan(self, p: Pid, x: u8, written: Option<i64>) -> Result<Plan, Refusal>
         requires { full (seen self) ≡ false }
         ensures { numbered result ≡ invoke_plan (seen self.entry) p x written }
     {
         let r = self.replica(p);
         self.may_invoke(p, x, r)?;
         let number = self.rows.len() as u16 + 1;
-        let handled = begin::<S>(r, p, x, number, written)?;
+        let handled = begin(r, p, x, number, written)?;
         let row = rows::begun_row(p, x, handled.replica.clock, written);
         Ok(self.accept(p, None, handled, Some((self.rows.len(), row))))
     }
 
     // What the recipient answers to a message.
-    fn heard<S: Stub>(self, r: Replica, message: Message) -> Result<Handled, Refusal>
-        ensures { answer_of r result ≡ heard (seen self.entry) r message }
+    fn heard(self, r: Replica, message: Message) -> Result<Handled, Refusal>
+        ensures { answer r result ≡ heard (seen self.entry) r message }
     {
         let asked = self.asked_register(r.phase);
         let Message {
-            from, time, rid, ..
+            from,
+            time,
+            rid,
+            ..
         } = message;
         match message.body {
-            Body::Query(x) => S::query_received(r, from, time, rid, x),
+            Body::Query(x) => r.query_received(from, time, rid, x),
             Body::Response(pair) => {
-                S::response_received(r, self.bench.n, asked, from, time, rid, pair)
+                r.response_received(self.bench.n, asked, from, time, rid, pair)
             }
-            Body::Update(x, pair) => S::update_received(r, from, time, rid, x, pair),
-            Body::Ack => S::ack_received(r, self.bench.n, from, time, rid),
+            Body::Update(x, pair) => r.update_received(from, time, rid, x, pair),
+            Body::Ack => r.ack_received(self.bench.n, from, time, rid),
         }
     }
 
     #[tactic(auto, unfolding(crate::specs::Plan::deliver_plan))]
-    fn deliver_plan<S: Stub>(self, k: u32) -> Result<Plan, Refusal>
+    fn deliver_plan(self, k: u32) -> Result<Plan, Refusal>
         requires { full (seen self) ≡ false }
         ensures { numbered result ≡ deliver_plan (seen self.entry) (seek k 0 (seen self.entry).flight) }
     {
@@ -110,7 +98,7 @@ impl View<'_> {
         if r.crashed {
             return Err(Refusal::RecipientCrashed);
         }
-        let answer = self.heard::<S>(r, message);
+        let answer = self.heard(r, message);
         let left = self.flight.len().saturating_sub(1);
         if is_over(left + self.count_of(answer) as usize) {
             return Err(Refusal::NoRoom);
@@ -121,13 +109,13 @@ impl View<'_> {
     }
 
     #[tactic(auto, unfolding(crate::specs::Plan::crash_plan))]
-    fn crash_plan<S: Stub>(self, p: Pid) -> Result<Plan, Refusal>
+    fn crash_plan(self, p: Pid) -> Result<Plan, Refusal>
         requires { full (seen self) ≡ false }
         ensures { numbered result ≡ crash_plan (seen self.entry) p }
     {
         let r = self.replica(p);
         self.may_crash(p, r)?;
-        let handled = S::crash(r)?;
+        let handled = r.crash()?;
         Ok(self.accept(p, None, handled, None))
     }
 
@@ -151,17 +139,17 @@ impl View<'_> {
     }
 
     #[tactic(auto, using(crate::proofs::FullLaws::full_first), unfolding(crate::specs::Plan::plan_of))]
-    pub fn plan_of<S: Stub>(self, event: Event) -> Result<Plan, Refusal>
+    pub fn plan_of(self, event: Event) -> Result<Plan, Refusal>
         ensures { numbered result ≡ plan_of (seen self.entry) event }
     {
         if self.is_full() {
             return Err(Refusal::Full);
         }
         match event {
-            Event::Read(p, x) => self.invoke_plan::<S>(p, x, None),
-            Event::Write(p, x, value) => self.invoke_plan::<S>(p, x, Some(value)),
-            Event::Deliver(k) => self.deliver_plan::<S>(k),
-            Event::Crash(p) => self.crash_plan::<S>(p),
+            Event::Read(p, x) => self.invoke_plan(p, x, None),
+            Event::Write(p, x, value) => self.invoke_plan(p, x, Some(value)),
+            Event::Deliver(k) => self.deliver_plan(k),
+            Event::Crash(p) => self.crash_plan(p),
             Event::Lose(k) => self.lose_plan(k),
         }
     }

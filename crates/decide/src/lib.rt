@@ -13,7 +13,6 @@ mod checks;
 pub mod events;
 mod rows;
 mod sends;
-pub mod stub;
 
 // The state that is looked at: the counts and the replicas, the messages in flight, and the rows of the history. It has numbers left for one more
 // event's messages, and for one more row.

@@ -1,6 +1,6 @@
 // What a handler sends, as messages: how many, and the first of them.
 ghost use Rattle.std.specs.Prelude.{◌≡◌};
-ghost use Rattle.replica.specs.Answers.{answer as answer_of};
+ghost use Rattle.replica.specs.Answer.{answer as answer_of};
 ghost use Rattle.replica.specs.Numbers.{sent_by};
 ghost use Rattle.replica.specs.declared.Replica.{Replica};
 ghost use Rattle.state.specs.Step.{message_of};
