@@ -40,7 +40,7 @@ fn write(rows: &mut [Row], row: Option<(usize, Row)>)
     ensures { rows.new ≡ carried_rows row rows.old }
 {
     if let Some((place, row)) = row {
-        tables::put_row(rows, place, row);
+        tables::put(rows, place, row);
     }
 }
 
@@ -48,10 +48,7 @@ fn put_back(mut replicas: [Replica; 7], replica: Option<(Pid, Replica)>) -> [Rep
     ensures { result ≡ put_back replica replicas }
 {
     if let Some((p, r)) = replica {
-        let place = p.0.saturating_sub(1) as usize;
-        if place < 7 {
-            replicas[place] = r;
-        }
+        tables::put(&mut replicas, p.0.saturating_sub(1) as usize, r);
     }
     replicas
 }
@@ -67,8 +64,8 @@ fn moved(bench: Bench, event: Event, plan: Plan, left: usize) -> Bench
     };
     let next = Bench {
         accepted: bench.accepted + 1,
-        sent: bench.sent + count as u32,
-        flight: left as u16 + count as u16,
+        sent: bench.sent + u32::from(count),
+        flight: left as u16 + u16::from(count),
         replicas: put_back(bench.replicas, plan.replica),
         ..bench
     };

@@ -28,10 +28,8 @@ impl View<'_> {
     fn replica(self, p: Pid) -> Replica
         ensures { result ≡ replica_of (seen self.entry) p.0 }
     {
-        match self.bench.replicas.get(p.0.saturating_sub(1) as usize) {
-            Some(r) => *r,
-            None => Replica::default(),
-        }
+        let place = usize::from(p.0.saturating_sub(1));
+        self.bench.replicas.get(place).copied().unwrap_or_default()
     }
 
     // What p's handler says is carried out, the message that it answers is taken off, if it answers one, and a row is written.
@@ -87,20 +85,20 @@ impl View<'_> {
         }
     }
 
-    #[tactic(auto, unfolding(crate::specs::Plan::deliver_plan))]
+    #[tactic(auto, using(crate::proofs::FoundLaws::found_within), unfolding(crate::specs::Plan::deliver_plan))]
     fn deliver_plan(self, k: u32) -> Result<Plan, Refusal>
         requires { full (seen self) ≡ false }
         ensures { numbered result ≡ deliver_plan (seen self.entry) (seek k 0 (seen self.entry).flight) }
     {
         let at = tables::find(self.flight, self.flight.len(), k).ok_or(Refusal::NoMessage)?;
-        let message = tables::message_at(self.flight, at);
+        let message = self.flight[at];
         let r = self.replica(message.to);
         if r.crashed {
             return Err(Refusal::RecipientCrashed);
         }
         let answer = self.heard(r, message);
         let left = self.flight.len().saturating_sub(1);
-        if is_over(left + self.count_of(answer) as usize) {
+        if is_over(left + usize::from(self.count_of(answer))) {
             return Err(Refusal::NoRoom);
         }
         let handled = answer?;
@@ -120,13 +118,13 @@ impl View<'_> {
     }
 
     // A lost message changes no replica.
-    #[tactic(auto, unfolding(crate::specs::Plan::lose_plan))]
+    #[tactic(auto, using(crate::proofs::FoundLaws::found_within), unfolding(crate::specs::Plan::lose_plan))]
     fn lose_plan(self, k: u32) -> Result<Plan, Refusal>
         requires { full (seen self) ≡ false }
         ensures { numbered result ≡ lose_plan (seen self.entry) (seek k 0 (seen self.entry).flight) }
     {
         let at = tables::find(self.flight, self.flight.len(), k).ok_or(Refusal::NoMessage)?;
-        let message = tables::message_at(self.flight, at);
+        let message = self.flight[at];
         if !self.replica(message.from).crashed & !self.replica(message.to).crashed {
             return Err(Refusal::BothUp);
         }

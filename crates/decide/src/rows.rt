@@ -1,5 +1,5 @@
 // The rows of the history: how one begins, and what the end of a phase makes of it.
-ghost use Rattle.std.specs.Prelude.{◌≡◌};
+ghost use Rattle.std.specs.Prelude.{◌≡◌, ◌-◌};
 ghost use Rattle.replica.specs.Numbers.{pointed};
 ghost use Rattle.state.specs.State.{row_of};
 ghost use Rattle.state.specs.Step.{completed, queried_row, asked_register};
@@ -19,7 +19,7 @@ pub(crate) fn begun_row(p: Pid, x: u8, clock: Time, written: Option<i64>) -> Row
         kind: Kind::Read,
         register: x,
         invoked: clock,
-        ..tables::empty_row()
+        ..Row::default()
     };
     match written {
         None => read,
@@ -70,15 +70,19 @@ fn completed_row(row: Row, time: Time, pair: Pair, who: u8) -> Row
     }
 }
 
+// Rows are counted from 1.
+fn place_of(number: u16) -> usize
+    ensures { result ≡ number - 1 }
+{
+    usize::from(number.saturating_sub(1))
+}
+
 impl View<'_> {
     // Row number i, counted from 1; an empty one where there is none.
     fn row(self, number: u16) -> Row
         ensures { result ≡ row_of (seen self.entry) number }
     {
-        match self.rows.get(number.saturating_sub(1) as usize) {
-            Some(row) => *row,
-            None => tables::empty_row(),
-        }
+        self.rows.get(place_of(number)).copied().unwrap_or_default()
     }
 
     // The register that a querying replica asks for, which its row has. Any other asks for none, and 1 stands in.
@@ -96,13 +100,12 @@ impl View<'_> {
         ensures { result ≡ written_by (seen self.entry) (pointed phase) ended }
     {
         let number = phases::pointed_by(phase);
-        let place = number.saturating_sub(1) as usize;
-        match ended {
-            Ended::Pending => None,
-            Ended::Query(who) => Some((place, queried_row(self.row(number), who))),
-            Ended::At(time, pair, who) => {
-                Some((place, completed_row(self.row(number), time, pair, who)))
-            }
-        }
+        let row = self.row(number);
+        let ended = match ended {
+            Ended::Pending => return None,
+            Ended::Query(who) => queried_row(row, who),
+            Ended::At(time, pair, who) => completed_row(row, time, pair, who),
+        };
+        Some((place_of(number), ended))
     }
 }
