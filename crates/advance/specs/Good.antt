@@ -239,7 +239,7 @@ module _ (b : Bench) (messages : List Message) (rows : List Row) (t : tabled b m
   unfolding tabled Tests
   tests = all6 (lengths_fit messages rows) (leb b.flight 512) (leb b.rows 1024) (every is_empty_message (drop b.flight messages)) (every is_empty_row (drop b.rows rows)) (well_formed (view b messages rows)) t
 
-  lengths : (length messages ≡ 512) × (length rows ≡ 1024)
+  pub lengths : (length messages ≡ 512) × (length rows ≡ 1024)
   unfolding Tests
   lengths = let (a, c) = both (eqb (length messages) 512) (eqb (length rows) 1024) tests.0 in (eqb-true (length messages) 512 a, eqb-true (length rows) 1024 c)
 
@@ -251,10 +251,10 @@ module _ (b : Bench) (messages : List Message) (rows : List Row) (t : tabled b m
   unfolding Tests
   rows-most = leb-true b.rows 1024 tests.2
 
-  flight-count : length (take b.flight messages) ≡ b.flight
+  pub flight-count : length (take b.flight messages) ≡ b.flight
   flight-count = omega (arith, length-take b.flight messages, lengths.0, flight-most)
 
-  rows-count : length (take b.rows rows) ≡ b.rows
+  pub rows-count : length (take b.rows rows) ≡ b.rows
   rows-count = omega (arith, length-take b.rows rows, lengths.1, rows-most)
 
   pub held : Good (view b messages rows)
@@ -271,6 +271,3 @@ module _ (b : Bench) (messages : List Message) (rows : List Row) (t : tabled b m
 
   pub bench-is : b ≡ bench_of (view b messages rows)
   bench-is = rw (flight-count, rows-count)
-
-  pub message-count : length messages ≡ 512
-  message-count = lengths.0

@@ -8,7 +8,7 @@ use Rattle.words.specs.Refusals.{number}
 use Rattle.words.proofs.RefusalLaws.{number-some}
 use Rattle.words.specs.RangeLaws.{and_left, and_right}
 use Rattle.state.specs.declared.Bench.{Bench}
-use Rattle.state.specs.declared.Stepped.{Stepped}
+use Rattle.state.specs.Stepped.{Stepped}
 use Rattle.state.specs.Step.{check}
 use Rattle.state.specs.Tabled.{bench_of}
 use Rattle.format.specs.Format.{file_refusal}

@@ -1,7 +1,6 @@
 -- What a reader has to believe
 pub mod Run
 pub mod Turns
-pub mod Stepped
 pub mod Opening
 -- Laws
 pub mod EventLaws

@@ -3,9 +3,10 @@ use Rattle.std.specs.Prelude.{ℕ, ◌<◌, ◌≤◌, ◌≡◌, true, Option, 
 use Rattle.words.specs.declared.refusal.Refusal.{Refusal}
 use Rattle.words.specs.declared.Message.{Message}
 use Rattle.words.specs.Refusals.{number}
+use Rattle.words.specs.Stops.{stop_number}
 use Rattle.tables.specs.declared.Row.{Row}
 use Rattle.state.specs.declared.Bench.{Bench}
-use Rattle.state.specs.declared.Stepped.{Stepped}
+use Rattle.state.specs.Stepped.{Stepped}
 use Rattle.state.specs.State.{view, laid_messages, laid_rows}
 use Rattle.state.specs.Tabled.{tabled, bench_of}
 use Rattle.bench.specs.Start.{no_bench}
@@ -21,10 +22,6 @@ pub record RanOn (b : Bench) (bytes : List ℕ) (at : ℕ) (messages : List Mess
   pub rows-laid : rows' ≡ laid_rows (ran bytes at (view b messages rows)).state
 
 -- ---- what the results of the code stand for
-
-abbrev pub stop_number : Option Refusal → ℕ
-stop_number None = 0
-stop_number (Some e) = number e
 
 abbrev pub stepped_by : Ran → Stepped
 stepped_by r = record { refusal = stop_number r.stopped; bench = r.bench }

@@ -6,13 +6,12 @@ ghost use Rattle.state.specs.Tabled.{tabled};
 ghost use Rattle.bench.specs.Start.{started};
 ghost use Rattle.schedule.specs.Opening.{opened, opens, run_reply, run_messages, run_rows};
 ghost use Rattle.schedule.specs.Turns.{Turned, RanOn, replied_by, stepped_by};
-ghost use Rattle.advance.specs.Advanced.{Advanced};
-ghost use Rattle.schedule.specs.Stepped.{stepped};
 
+use advance::advance;
 use bench::fresh::fresh_bench;
 use format::events::event_at;
 use format::file::{HEAD, M_AT, N_AT, file_refusal};
-use state::{Bench, Event};
+use state::Bench;
 use tables::{Row, clear_messages, clear_rows};
 use words::Message;
 use words::limits::{MESSAGE_PLACES, ROW_PLACES};
@@ -23,22 +22,6 @@ use words::refusal::Refusal;
 pub struct Ran {
     pub bench: Bench,
     pub stopped: Option<Refusal>,
-}
-
-fn advance(
-    messages: &mut [Message],
-    rows: &mut [Row],
-    bench: Bench,
-    event: Event,
-) -> Result<Bench, Refusal>
-    requires { tabled bench messages.old rows.old ≡ true }
-    ensures { Advanced bench event messages.old rows.old (stepped bench result) messages.new rows.new }
-{
-    let stepped = advance::advance(messages, rows, bench, event);
-    if stepped.refusal == 0 {
-        return Ok(stepped.bench);
-    }
-    Err(Refusal::Full)
 }
 
 // One turn: the bench after the event at a place, and the place behind it; none at the end.
