@@ -6,7 +6,7 @@ use Rattle.std.proofs.Math.Bool.{and-false}
 use mathlib.Core.List.{List}
 use Rattle.std.proofs.Math.Seq.{set-get_or}
 use Rattle.std.proofs.lemmas.Bool.{eqb-false}
-use Rattle.replica.specs.declared.Answer.{Answer}
+use Rattle.replica.specs.Answer.{Answer, accepted, refused}
 use Rattle.words.specs.declared.Pair.{Pair}
 use Rattle.words.specs.declared.Pid.{Pid}
 use Rattle.replica.specs.declared.Replica.{Replica}
@@ -18,10 +18,8 @@ use Rattle.replica.specs.Clock.{after}
 use Rattle.replica.specs.Handlers.{
   became,
   reply_of,
-  accepted,
   stored,
   unless_refused,
-  refused,
   is_idle,
   begin_refusal,
   down_refusal,

@@ -1,28 +1,23 @@
-use Rattle.std.proofs.Common.{ap, sym, ◌∙◌}
-use Rattle.words.specs.RangeLaws.{sender-time}
-use Rattle.replica.specs.RangeLaws.{fits-clock, fits-rid}
-use Rattle.replica.specs.Handlers.{ack_received, ack_rule, ack_taken}
-use Rattle.replica.proofs.HandlerLaws.{rule-by, refuse-by, ack-inside}
+use Rattle.std.proofs.Common.{rules, ◌≡◌, ◌≤◌, ℕ, ◌+◌, ◌-◌, ◌*◌, ◌<◌, length, ◌/◌, ◌%◌, Bool, true, false, nat_eq, nat_lt, List, [], ◌∷◌, ◌++◌, slice_index_or, slice_set, bit_and, bit_or, Fits, w8, w32, w64, Bor, MutBor}
+use Rattle.words.specs.Limits.{most_time, most_rid}
+use Rattle.replica.specs.Answer.{answer, answered}
+use Rattle.replica.specs.Handlers.{read_begun, write_begun, query_received, update_received, response_received, ack_received, crashed, response_counted, ack_counted}
 use Rattle.replica.proofs.Replica.ack_received.Goals as goal
+use Rattle.replica.proofs.Replica.ack_received.Goals.{in_default-via-in-Updating+else-eq, in_default-via-in_default}
 
-pub returns-then-refusal-ne0 : goal.returns-then-refusal-ne0
-unfolding ack_received
-returns-then-refusal-ne0 c = c.refuse.ensures ∙ refuse-by _ _ _ _ c.ack_refusal-refusal.ensures c.if-refusal-ne0.true
+-- src/handlers.rt:155:9
+pub returns-in_err-check_ack : goal.returns-in_err-check_ack
+returns-in_err-check_ack c = ?
 
-pub returns-in_default : goal.returns-in_default
-unfolding ack_received ack_rule
-returns-in_default c =
-    let a = c.args in
-    c.accept.ensures ∙ sym (ap (λ k. ack_taken k a.self a.n a.from a.time) (sym c.counts_ack.ensures ∙ c.in_default.is)) ∙ rule-by _ _ _ _ c.ack_refusal-refusal.ensures c.if-refusal-ne0.false
-
+-- src/handlers.rt:158:17
 pub ack_counted-requires : goal.ack_counted-requires
-ack_counted-requires c =
-    let a = c.args in
-    let i = ack-inside a.self a.n a.from a.time a.rid c.ack_refusal-refusal.ensures c.if-refusal-ne0.false in
-    (fits-clock a.n a.self i.0, sender-time a.n a.from a.time a.rid i.1, fits-rid a.n a.self i.0)
+ack_counted-requires c = ?
 
-pub returns : goal.returns
-unfolding ack_received ack_rule
-returns c =
-    let a = c.args in
-    c.ack_counted.ensures ∙ sym (ap (λ k. ack_taken k a.self a.n a.from a.time) (sym c.counts_ack.ensures ∙ c.in-For.is)) ∙ rule-by _ _ _ _ c.ack_refusal-refusal.ensures c.if-refusal-ne0.false
+-- src/handlers.rt:152:5
+pub returns-in-Updating : goal.returns-in-Updating
+returns-in-Updating c = ?
+
+-- src/handlers.rt:152:5
+pub returns-in_default : goal.returns-in_default
+returns-in_default c =
+    elim c.in_default.branch [ in_default-via-in-Updating+else-eq w ↦ {! w.if-eq.false !} | in_default-via-in_default w ↦ {! w.in_default !} ]

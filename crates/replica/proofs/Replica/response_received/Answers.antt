@@ -1,28 +1,21 @@
-use Rattle.std.proofs.Common.{ap, sym, ◌∙◌}
-use Rattle.words.specs.RangeLaws.{sender-time}
-use Rattle.replica.specs.RangeLaws.{fits-clock, fits-rid}
-use Rattle.replica.specs.Handlers.{response_received, response_rule, response_taken, response_counted}
-use Rattle.replica.proofs.HandlerLaws.{rule-by, refuse-by, response-inside}
+use Rattle.std.proofs.Common.{rules, ◌≡◌, ◌≤◌, ℕ, ◌+◌, ◌-◌, ◌*◌, ◌<◌, length, ◌/◌, ◌%◌, Bool, true, false, nat_eq, nat_lt, List, [], ◌∷◌, ◌++◌, slice_index_or, slice_set, bit_and, bit_or, Fits, w8, w32, w64, Bor, MutBor}
+use Rattle.words.specs.Limits.{most_time, most_rid}
+use Rattle.replica.specs.Answer.{answer, answered}
+use Rattle.replica.specs.Handlers.{read_begun, write_begun, query_received, update_received, response_received, ack_received, crashed, response_counted, ack_counted}
 use Rattle.replica.proofs.Replica.response_received.Goals as goal
 
-pub returns-then-refusal-ne0 : goal.returns-then-refusal-ne0
-unfolding response_received
-returns-then-refusal-ne0 c = c.refuse.ensures ∙ refuse-by _ _ _ _ c.response_refusal-refusal.ensures c.if-refusal-ne0.true
+-- src/handlers.rt:120:9
+pub returns-in_err-check_response : goal.returns-in_err-check_response
+returns-in_err-check_response c = ?
 
-pub returns-in_default : goal.returns-in_default
-unfolding response_received response_rule
-returns-in_default c =
-    let a = c.args in
-    c.accept.ensures ∙ sym (ap (λ k. response_taken k a.self a.n a.register a.from a.time a.pair) (sym c.counts_response.ensures ∙ c.in_default.is)) ∙ rule-by _ _ _ _ c.response_refusal-refusal.ensures c.if-refusal-ne0.false
-
+-- src/handlers.rt:123:17
 pub response_counted-requires : goal.response_counted-requires
-response_counted-requires c =
-    let a = c.args in
-    let i = response-inside a.self a.n a.register a.from a.time a.rid a.pair c.response_refusal-refusal.ensures c.if-refusal-ne0.false in
-    (fits-clock a.n a.self i.0, sender-time a.n a.from a.time a.rid i.1, fits-rid a.n a.self i.0)
+response_counted-requires c = ?
 
-pub returns : goal.returns
-unfolding response_received response_rule
-returns c =
-    let a = c.args in
-    c.response_counted.ensures ∙ ap (response_counted a.self a.n a.register a.from a.time _) c.with_response.ensures ∙ sym (ap (λ k. response_taken k a.self a.n a.register a.from a.time a.pair) (sym c.counts_response.ensures ∙ c.in-For.is)) ∙ rule-by _ _ _ _ c.response_refusal-refusal.ensures c.if-refusal-ne0.false
+-- src/handlers.rt:109:5
+pub returns-in-Querying : goal.returns-in-Querying
+returns-in-Querying c = ?
+
+-- src/handlers.rt:109:5
+pub returns-in_default : goal.returns-in_default
+returns-in_default c = ?
