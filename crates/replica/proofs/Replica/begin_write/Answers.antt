@@ -1,5 +1,4 @@
-use Rattle.replica.specs.Gathering.{nothing_gathered}
-use Rattle.std.proofs.Common.{◌≡◌, rules, refl, arith, w64}
+use Rattle.std.proofs.Common.{refl, arith, w64}
 use Rattle.std.proofs.Math.Facts.{to_z-of_z}
 use Rattle.std.proofs.lemmas.Result.{err_from_is_err_and}
 use Rattle.words.proofs.RefusalLaws.{number-some}

@@ -1,4 +1,4 @@
-use Rattle.std.proofs.Common.{refl, arith}
+use Rattle.std.proofs.Common.{refl}
 use Rattle.std.proofs.lemmas.Result.{err_from_is_err_and}
 use Rattle.words.proofs.RefusalLaws.{number-some}
 use Rattle.words.specs.RangeLaws.{sender-time, within-least, within-most}
