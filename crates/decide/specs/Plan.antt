@@ -4,7 +4,7 @@ use Rattle.std.specs.Prelude.{ℕ, ◌+◌, Bool, cond, eqb, ℤ, Option, Some, 
 use Rattle.words.specs.declared.Body.{Body}
 use Rattle.words.specs.declared.Body.TheVariants.{Query, Response, Update, Ack}
 use Rattle.words.specs.declared.Message.{Message}
-use Rattle.replica.specs.declared.Answer.{Answer}
+use Rattle.replica.specs.Answer.{Answer}
 use Rattle.replica.specs.declared.Ended.{Ended}
 use Rattle.replica.specs.declared.Ended.TheVariants.{Pending, Query as Queried, At}
 use Rattle.replica.specs.declared.Phase.{Phase}
