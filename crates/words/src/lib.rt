@@ -2,6 +2,9 @@
 // compared, how repliers are counted, which numbers are inside document 01's ranges. All by value, and every function is total.
 #![tactic(auto)]
 
+ghost use Rattle.std.specs.Prelude.{◌≡◌};
+ghost use Rattle.words.specs.Messages.{empty_message};
+
 pub mod limits;
 pub mod quorum;
 pub mod ranges;
@@ -56,4 +59,20 @@ pub struct Message {
     pub time: Time,
     pub rid: Rid,
     pub body: Body,
+}
+
+// The message of an unused place: a query, all fields 0.
+impl Default for Message {
+    ghost is_default = { λ m. m ≡ empty_message };
+
+    fn default() -> Message {
+        Message {
+            number: 0,
+            from: Pid(0),
+            to: Pid(0),
+            time: Time(0),
+            rid: Rid(0),
+            body: Body::Query(0),
+        }
+    }
 }
