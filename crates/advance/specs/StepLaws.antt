@@ -5,7 +5,7 @@ use Rattle.std.proofs.Math.Seq.{take-length}
 use Rattle.words.specs.declared.Message.{Message}
 use Rattle.words.specs.declared.Pid.{Pid}
 use Rattle.words.specs.Ranges.{within}
-use Rattle.replica.specs.declared.Answer.{Answer}
+use Rattle.replica.specs.Answer.{Answer}
 use Rattle.replica.specs.declared.Ended.{Ended}
 use Rattle.replica.specs.declared.Ended.TheVariants.{Pending, Query as Queried, At}
 use Rattle.replica.specs.declared.Phase.{Phase}
