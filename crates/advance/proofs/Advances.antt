@@ -11,7 +11,7 @@ use Rattle.state.specs.Tabled.{tabled, bench_of}
 use Rattle.decide.specs.declared.Plan.{Plan}
 use Rattle.decide.specs.Plan.{plan_of}
 use Rattle.advance.specs.Advanced.{Advanced}
-use Rattle.advance.specs.Good.{held, messages-are, rows_are, bench-is, lengths, flight-count, rows-count}
+use Rattle.advance.specs.Good.{held, messages-are, rows_are, bench-is, lengths, flight-count}
 use Rattle.advance.specs.Steps.{Carried, Done}
 use Rattle.advance.specs.StepLaws.{event-done}
 use Rattle.advance.specs.Parts.{Bounded, Takes, Posts, carried_bench, carried_messages, carried_rows, left_of, posted_at, taken_off}

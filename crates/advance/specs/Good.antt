@@ -1,9 +1,7 @@
 -- What a state that is tabled gives, as facts: bounds of its counts, of the ends of its messages, and of the rows that its replicas point to.
-use Rattle.std.specs.Prelude.{ℕ, zero, suc, ◌+◌, ◌-◌, ◌*◌, ◌<◌, ◌≤◌, ◌≡◌, refl, Bool, true, false, not, cond, ◌&&◌, List, [], ◌∷◌, ◌++◌, eqb, leb, ltb, ℤ, pos, negsuc, get_or, take, drop, replicate}
-use Rattle.std.proofs.Common.{not-suc-le-zero, le_of_suc-le-suc, arith, sym, ap, subst, ◌∙◌, take-append-drop, length-take, length-drop}
+use Rattle.std.specs.Prelude.{ℕ, zero, suc, ◌+◌, ◌-◌, ◌*◌, ◌<◌, ◌≤◌, ◌≡◌, refl, Bool, true, false, not, cond, ◌&&◌, List, [], ◌∷◌, ◌++◌, eqb, leb, ltb, ℤ, pos, negsuc, length, get_or, take, drop, replicate}
+use Rattle.std.proofs.Common.{not-suc-le-zero, le_of_suc-le-suc, leb-true, eqb-true, le-leb, arith, sym, ap, subst, ◌∙◌, take-append-drop, length-take, length-drop}
 use Rattle.std.proofs.lemmas.Bool.{false≢true}
-use Rattle.std.proofs.Math.ListN.{length}
-use borrow.Author.Tests.{leb-true, eqb-true, le-leb}
 use Rattle.words.specs.declared.Body.{Body}
 use Rattle.words.specs.declared.Body.TheVariants.{Query, Response, Update, Ack}
 use Rattle.words.specs.declared.Message.{Message}

@@ -1,11 +1,11 @@
 -- Event by event: the plan of an event is what `step` says.
-use Rattle.std.specs.Prelude.{ℕ, ◌+◌, ◌-◌, ◌<◌, ◌≤◌, ◌≡◌, refl, Bool, true, false, not, cond, ◌||◌, List, [], ◌∷◌, ◌++◌, leb, ℤ, length, get_or, set, Option, Some, None, Result, Ok, Err}
+use Rattle.std.specs.Prelude.{ℕ, ◌+◌, ◌-◌, ◌<◌, ◌≤◌, ◌≡◌, refl, Bool, true, false, not, cond, ◌||◌, List, [], ◌∷◌, ◌++◌, leb, ℤ, length, get_or, set, Option, Some, None, Err}
 use Rattle.std.proofs.Common.{arith, sym, ap, subst, ◌∙◌, length-append, leb-false, ltb-false}
 use Rattle.std.proofs.Math.Seq.{take-length}
 use Rattle.words.specs.declared.Message.{Message}
 use Rattle.words.specs.declared.Pid.{Pid}
 use Rattle.words.specs.Ranges.{within}
-use Rattle.replica.specs.declared.Answer.{Answer}
+use Rattle.replica.specs.Answer.{Answer}
 use Rattle.replica.specs.declared.Ended.{Ended}
 use Rattle.replica.specs.declared.Ended.TheVariants.{Pending, Query as Queried, At}
 use Rattle.replica.specs.declared.Phase.{Phase}

@@ -1,16 +1,16 @@
 -- A plan that is carried out on a state that is laid out in a bench and its two tables gives what `step` says: first for a refusal and for each
 -- kind of acceptance, by what the plan says; then event by event.
-use Rattle.std.specs.Prelude.{ℕ, ◌+◌, ◌-◌, ◌<◌, ◌≤◌, ◌≡◌, refl, Bool, true, false, cond, List, [], ◌++◌, eqb, length, replicate, set, Option, Some, None, Result, Ok, Err}
-use Rattle.std.proofs.Common.{arith, sym, ap, ◌∙◌, append-nil, length-append, eqb-true}
+use Rattle.std.specs.Prelude.{ℕ, ◌+◌, ◌-◌, ◌<◌, ◌≤◌, ◌≡◌, refl, Bool, true, false, cond, List, ◌++◌, eqb, length, set, Option, Some, None, Result, Ok, Err}
+use Rattle.std.proofs.Common.{arith, sym, ap, ◌∙◌, length-append, eqb-true}
 use Rattle.words.specs.declared.Message.{Message}
 use Rattle.words.specs.declared.Pid.{Pid}
-use Rattle.replica.specs.declared.Answer.{Answer}
+use Rattle.replica.specs.Answer.{Answer}
 use Rattle.replica.specs.declared.Replica.{Replica}
 use Rattle.replica.specs.declared.Sends.{Sends}
 use Rattle.replica.specs.declared.Sends.TheVariants.{Nothing, Reply, Broadcast}
 use Rattle.replica.specs.Numbers.{sent_by}
 use Rattle.tables.specs.declared.Row.{Row}
-use Rattle.tables.specs.Tables.{empty_message, empty_row, removed, copies, laid_at}
+use Rattle.tables.specs.Tables.{empty_message, empty_row, removed, laid_at}
 use Rattle.tables.specs.TableLaws.{laid_none}
 use Rattle.state.specs.declared.Bench.{Bench}
 use Rattle.state.specs.declared.Event.{Event}

@@ -1,5 +1,5 @@
 -- The place of a message that was found is one of the table's.
-use Rattle.std.specs.Prelude.{ℕ, ◌<◌, ◌≡◌, List, length, take, Some}
+use Rattle.std.specs.Prelude.{ℕ, ◌<◌, ◌≡◌, List, take, Some}
 use Rattle.std.proofs.Common.{sym}
 use Rattle.words.specs.declared.Message.{Message}
 use Rattle.tables.specs.Tables.{seek}

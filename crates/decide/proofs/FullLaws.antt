@@ -1,6 +1,5 @@
 -- That 12,000 events are accepted already (17) is checked before all else.
 use Rattle.std.specs.Prelude.{ℕ, ◌≡◌, refl, true, Option, Some, None, Err}
-use Rattle.std.proofs.Common.{ap, sym}
 use Rattle.tables.specs.Tables.{seek}
 use Rattle.state.specs.declared.Event.{Event}
 use Rattle.state.specs.declared.Event.TheVariants.{Read, Write, Deliver, Crash, Lose}

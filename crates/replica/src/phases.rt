@@ -8,11 +8,7 @@ use crate::Phase;
 pub fn is_idle(phase: Phase) -> bool
     ensures { result ≡ is_idle phase }
 {
-    match phase {
-        Phase::Idle => true,
-        Phase::Querying(_, _) => false,
-        Phase::Updating(_, _) => false,
-    }
+    matches!(phase, Phase::Idle)
 }
 
 // The row that a waiting replica points to, 0 while idle.
@@ -21,7 +17,6 @@ pub fn pointed_by(phase: Phase) -> u16
 {
     match phase {
         Phase::Idle => 0,
-        Phase::Querying(row, _) => row,
-        Phase::Updating(row, _) => row,
+        Phase::Querying(row, _) | Phase::Updating(row, _) => row,
     }
 }

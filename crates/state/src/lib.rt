@@ -6,7 +6,7 @@ use replica::Replica;
 use words::Pid;
 
 // The counts, and the replicas. The messages in flight and the rows of the history lie in the two lent tables.
-#[derive(Clone, Copy)]
+#[derive(Clone, Copy, Debug, Default, PartialEq, Eq)]
 pub struct Bench {
     pub n: u8,
     pub m: u8,
@@ -19,7 +19,7 @@ pub struct Bench {
     pub replicas: [Replica; 7],
 }
 
-#[derive(Clone, Copy)]
+#[derive(Clone, Copy, Debug, PartialEq, Eq)]
 pub enum Event {
     Read(Pid, u8),
     Write(Pid, u8, i64),
