@@ -22,7 +22,8 @@ use Rattle.replica.specs.Answer.{refused}
 use Rattle.replica.specs.Handlers.{response_refusal, response_rule, response_received, response_counted, response_counts, response_taken, ack_refusal, ack_rule, ack_received, ack_counted, ack_counts, ack_taken, crash_refusal, crash_rule, crashed}
 use Rattle.replica.specs.Gathering.{gathered_with}
 use Rattle.replica.specs.Numbers.{sent_by}
-use Rattle.decide.specs.Plan.{answer_by, answer_to}
+use Rattle.state.specs.State.{State}
+use Rattle.state.specs.Step.{asked_register, heard, heard_by}
 use Rattle.advance.specs.Steps.{Mild}
 
 -- what holds of a rule's answer and of a refusal holds of the handler's
@@ -111,11 +112,11 @@ module _ (r : Replica) (n asked : ℕ) (from : Pid) (time : Time) (rid : Rid) (n
   unfolding ack_received ack_rule
   ack-right = unless (Right r.phase) (eqb (ack_refusal r n from time rid) 0) (ack_refusal r n from time rid) r (ack_rule r n from time rid) (ack-taken r.phase) (tt, tt)
 
-pub answer-right : (n asked : ℕ) (r : Replica) (m : Message) → m.from.0 ≤ 7 → Right r.phase (answer_to n asked r m)
-answer-right n asked r m near = go m.body
+pub answer-right : (s : State) (r : Replica) (m : Message) → m.from.0 ≤ 7 → Right r.phase (heard s r m)
+answer-right s r m near = go m.body
   where
-    go : (x : Body) → Right r.phase (answer_by x n asked r m)
-    go (Query x) = query-right r n asked m.from m.time m.rid near x
-    go (Response pair) = response-right r n asked m.from m.time m.rid near pair
-    go (Update x pair) = update-right r n asked m.from m.time m.rid near x pair
-    go Ack = ack-right r n asked m.from m.time m.rid near
+    go : (x : Body) → Right r.phase (heard_by s r m x)
+    go (Query x) = query-right r s.n (asked_register s r.phase) m.from m.time m.rid near x
+    go (Response pair) = response-right r s.n (asked_register s r.phase) m.from m.time m.rid near pair
+    go (Update x pair) = update-right r s.n (asked_register s r.phase) m.from m.time m.rid near x pair
+    go Ack = ack-right r s.n (asked_register s r.phase) m.from m.time m.rid near

@@ -1,7 +1,7 @@
 -- What the functions inside promise and ask: what one row comes to, and sums that stay within 64 bits.
 use Rattle.std.specs.Prelude.{ℕ, ◌+◌, ◌≤◌, ◌<◌, ◌^◌, Bool, cond, ◌&&◌, [], ◌∷◌, eqb, get_or}
 use Rattle.state.specs.declared.Bench.{Bench}
-use Rattle.state.specs.declared.Stepped.{Stepped}
+use Rattle.state.specs.Stepped.{Stepped}
 use Rattle.figures.specs.declared.Entry.{Entry}
 use Rattle.figures.specs.declared.Sheet.{Sheet}
 use Rattle.figures.specs.declared.Operations.{Operations}

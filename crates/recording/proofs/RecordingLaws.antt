@@ -9,7 +9,7 @@ use Rattle.std.proofs.Math.ListN.{length, take}
 use Rattle.std.proofs.lemmas.Bool.{not-false, lt-leb}
 use Rattle.tables.specs.declared.Row.{Row}
 use Rattle.tables.specs.Tables.{laid_at}
-use Rattle.state.specs.declared.Stepped.{Stepped}
+use Rattle.state.specs.Stepped.{Stepped}
 use Rattle.state.specs.State.{State, laid_messages}
 use Rattle.state.specs.Tabled.{bench_of}
 use Rattle.state.proofs.Keeps.{reached-well-formed}

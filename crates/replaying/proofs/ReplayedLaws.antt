@@ -10,7 +10,7 @@ use Rattle.words.specs.declared.Message.{Message}
 use Rattle.tables.specs.declared.Row.{Row}
 use Rattle.tables.specs.Tables.{empty_message, empty_row, laid_at}
 use Rattle.state.specs.declared.Bench.{Bench}
-use Rattle.state.specs.declared.Stepped.{Stepped}
+use Rattle.state.specs.Stepped.{Stepped}
 use Rattle.state.specs.State.{State, view, laid_messages, laid_rows}
 use Rattle.state.specs.Tabled.{tabled, bench_of}
 use Rattle.state.specs.WellFormed.{every}

@@ -8,7 +8,7 @@ use Rattle.words.specs.declared.Message.{Message}
 use Rattle.tables.specs.declared.Row.{Row}
 use Rattle.tables.specs.Tables.{empty_message, empty_row}
 use Rattle.state.specs.declared.Bench.{Bench}
-use Rattle.state.specs.declared.Stepped.{Stepped}
+use Rattle.state.specs.Stepped.{Stepped}
 use Rattle.state.specs.State.{view, laid_messages, laid_rows}
 use Rattle.state.specs.Tabled.{tabled, bench_of}
 use Rattle.state.proofs.Keeps.{reached-well-formed}

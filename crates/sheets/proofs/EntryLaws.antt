@@ -7,7 +7,7 @@ use Rattle.std.proofs.Math.Dec.{eqb}
 use Rattle.std.proofs.Math.Seq.{take-append_seam}
 use Rattle.words.specs.Ranges.{within}
 use Rattle.tables.specs.declared.Row.{Row}
-use Rattle.state.specs.declared.Stepped.{Stepped}
+use Rattle.state.specs.Stepped.{Stepped}
 use Rattle.state.specs.State.{State, laid_rows}
 use Rattle.state.specs.Tabled.{bench_of}
 use Rattle.bench.specs.Start.{no_bench, replied}

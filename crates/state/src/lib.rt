@@ -27,10 +27,3 @@ pub enum Event {
     Crash(Pid),
     Lose(u32),
 }
-
-// The reply to an event: its number of refusal, 0 if it was accepted, and the bench.
-#[derive(Clone, Copy)]
-pub struct Stepped {
-    pub refusal: u8,
-    pub bench: Bench,
-}
