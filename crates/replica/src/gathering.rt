@@ -8,7 +8,7 @@ use words::stamps::newer_of;
 
 impl Gathered {
     // With one more response, which bears `pair`.
-    pub fn with(self, pair: Pair) -> Gathered
+    pub(crate) fn with(self, pair: Pair) -> Gathered
         ensures { result ≡ gathered_with self pair }
     {
         Gathered {

@@ -11,7 +11,7 @@ pub fn is_idle(phase: Phase) -> bool
     matches!(phase, Phase::Idle)
 }
 
-// The row that a waiting replica points to, 0 while idle.
+// The row that a waiting replica points to. A number and no Option: rows count from 1, document 01 writes 0 while idle, and the caller would turn None back.
 pub fn pointed_by(phase: Phase) -> u16
     ensures { result ≡ pointed phase }
 {

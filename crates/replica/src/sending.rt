@@ -9,7 +9,7 @@ use words::{Body, Pid, Rid};
 
 impl Replica {
     // No phase ended.
-    pub fn sending(self, sends: Sends) -> Handled
+    pub(crate) fn sending(self, sends: Sends) -> Handled
         ensures { result ≡ handled self sends Pending }
     {
         Handled {
@@ -19,7 +19,7 @@ impl Replica {
         }
     }
 
-    pub fn broadcast(self, body: Body) -> Sends
+    pub(crate) fn broadcast(self, body: Body) -> Sends
         ensures { result ≡ broadcast_of self.clock.0 self.rid.0 body }
     {
         Sends::Broadcast(Letter {
@@ -30,7 +30,7 @@ impl Replica {
     }
 
     // A reply bears the request's number.
-    pub fn reply(self, to: Pid, rid: Rid, body: Body) -> Sends
+    pub(crate) fn reply(self, to: Pid, rid: Rid, body: Body) -> Sends
         ensures { result ≡ reply_of to self.clock.0 rid.0 body }
     {
         Sends::Reply(
