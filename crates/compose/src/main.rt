@@ -1,7 +1,7 @@
 // The program: a text from standard input, the schedule file that it stands for to standard output. Text that is none is answered on standard error.
 #![tactic(auto)]
 
-use composing::Composed;
+use composing::NotComposed;
 use script::Fault;
 use std::io;
 
@@ -17,9 +17,10 @@ fn help(rt: &impl Eprint) -> io::Result<()> {
 
 fn complain(rt: &HostRuntime, line: usize, fault: Fault) -> io::Result<()> {
     let mut note = [0u8; 66];
-    let printed = composing::complain(line, fault, &mut note);
-    let size = printed.size;
-    rt.stderr().write_all(&note[..size])
+    match composing::complain(line, fault, &mut note) {
+        Ok(size) => rt.stderr().write_all(&note[..size]),
+        Err(_) => Ok(()),
+    }
 }
 
 fn main(rt: HostRuntime) -> io::Result<()> {
@@ -33,10 +34,9 @@ fn main(rt: HostRuntime) -> io::Result<()> {
     if LONGEST_TEXT < read {
         return eprintln!(rt; "the text has more than 393,216 bytes");
     }
-    let composed = composing::compose(&text[..read], &mut file);
-    match composed {
-        Composed::File(size) => rt.write_all(&file[..size]),
-        Composed::Wrong(line, fault) => complain(&rt, line, fault),
-        Composed::Short => Ok(()),
+    match composing::compose(&text[..read], &mut file) {
+        Ok(size) => rt.write_all(&file[..size]),
+        Err(NotComposed::Wrong { line, fault }) => complain(&rt, line, fault),
+        Err(NotComposed::Short) => Ok(()),
     }
 }

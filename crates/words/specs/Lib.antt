@@ -6,6 +6,7 @@ pub mod Ranges
 pub mod Stamps
 pub mod Rank
 pub mod Refusals
+pub mod Stops
 -- Laws
 pub mod QuorumLaws
 pub mod RangeLaws
