@@ -16,8 +16,8 @@ use crate::first::bench_in;
 use crate::rest::{put_script, survey};
 use script::Fault;
 use text::page::Page;
-use writing::file::put_head;
 use words::refusal::Refusal;
+use writing::file::put_head;
 
 mod complaint;
 mod first;
