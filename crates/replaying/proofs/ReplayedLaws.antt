@@ -157,7 +157,7 @@ module _ (bytes : List ℕ) (r : Stepped) (rows : List Row) (s : Stopped bytes r
 
   -- ---- what the order and the report ask
 
-  used-rows : take r.bench.rows rows ≡ (stopped bytes).rows
+  pub used-rows : take r.bench.rows rows ≡ (stopped bytes).rows
   used-rows = ap (λ (t : State). t.rows) view-is
 
   short-bench : ShortBench r.bench
