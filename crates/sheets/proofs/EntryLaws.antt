@@ -1,6 +1,6 @@
 -- What is counted of a run over a table of 1,024 rows is what its file adds.
 use Rattle.std.specs.Prelude.{ℕ, ◌-◌, ◌≤◌, ◌<◌, ◌≡◌, Bool, not, ◌||◌, List, [], ltb, length, take}
-use Rattle.std.proofs.Math.Path.{refl, ap}
+use Rattle.std.proofs.Math.Path.{ap}
 use Rattle.std.proofs.Common.{sym, subst, ◌∙◌, arith, eq-eqb}
 use Rattle.std.proofs.Math.Bool.{true, false, cond}
 use Rattle.std.proofs.Math.Dec.{eqb}
