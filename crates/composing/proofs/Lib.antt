@@ -1,2 +1,3 @@
+pub mod ComplaintLaws
 pub mod ComposeLaws
 pub mod PassLaws
