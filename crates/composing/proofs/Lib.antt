@@ -1,3 +1,2 @@
-pub mod ComplaintLaws
 pub mod ComposeLaws
 pub mod PassLaws

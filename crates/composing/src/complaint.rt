@@ -1,5 +1,5 @@
 // What is said of a line that is wrong.
-ghost use Rattle.std.specs.Prelude.{◌≡◌};
+ghost use Rattle.std.specs.Prelude.{◌≡◌, ◌+◌, ◌≤◌, length};
 ghost use Rattle.text.specs.Paged.{Room, Adds};
 ghost use Rattle.composing.specs.Complaint.{fault_text, complaint};
 
@@ -7,8 +7,9 @@ use script::Fault;
 use text::page::Page;
 
 #[tactic(auto, unfolding(crate::specs::Complaint::fault_text))]
-fn told(fault: Fault) -> &'static str
-    ensures { result.now ≡ fault_text fault }
+fn said_of(fault: Fault) -> &'static str
+    ensures text { result.now ≡ fault_text fault }
+    ensures short { length result.now ≤ 40 }
 {
     match fault {
         Fault::Unknown => ": unknown word",
@@ -29,6 +30,6 @@ pub fn put_complaint(page: &mut Page<'_>, line: usize, fault: Fault)
 {
     page.put_str("line");
     page.put_number(line as u64);
-    page.put_str(told(fault));
+    page.put_str(said_of(fault));
     page.put_byte(b'\n');
 }
