@@ -1,7 +1,7 @@
 -- What a well-formed bench says of the rows that the order is made of; and that what is laid is what `order` replies.
 use Rattle.std.specs.Prelude.{◌≡◌, refl, ℕ, ◌-◌, ◌≤◌, Bool, not, ◌&&◌, ◌||◌, List, ◌++◌, leb, eqb, length, replicate, take, drop}
 use Rattle.std.proofs.Math.Path.{ap}
-use Rattle.std.proofs.Common.{◌∙◌, arith, eqb-true, leb-true, le-leb}
+use Rattle.std.proofs.Common.{arith, eqb-true, leb-true, le-leb}
 use Rattle.std.proofs.Math.Bool.{true, false}
 use Rattle.std.specs.Bool.{beq}
 use Rattle.words.specs.declared.Message.{Message}
@@ -16,8 +16,7 @@ use Rattle.state.specs.WellFormed.{every, well_formed, row_fits}
 use Rattle.state.proofs.WellLaws.{Well, RowOk, row_ok}
 use Rattle.order.specs.Operations.{order_of}
 use Rattle.order.specs.Keys.{row_ranged}
-use Rattle.bench.specs.declared.Ordered.{Ordered}
-use Rattle.bench.specs.Listing.{can_list, listed_reply, unlisted, laid_numbers, list_reply, list_left}
+use Rattle.bench.specs.Listing.{Ordered, can_list, listed_reply, unlisted, laid_numbers, list_reply, list_left}
 use Rattle.bench.proofs.ReplyLaws.{pick}
 use Rattle.bench.specs.TabledUse.{well-tabled}
 
@@ -93,18 +92,18 @@ module _ (b : Bench) (messages : List Message) (rows : List Row) (out : List ℕ
   pub can-long : can ≡ true → length out ≡ 1024
   can-long e = eqb-true _ _ (and_right (tabled b messages rows) (eqb (length out) 1024) e)
 
-  pub was-listed : can ≡ true → (n : ℕ) (zs : List ℕ) → n ≡ length order → zs ≡ order ++ replicate (1024 - length order) 0 → (r : Ordered) → r ≡ listed_reply n → Listed b messages rows out r zs
+  pub was-listed : can ≡ true → (n : ℕ) (zs : List ℕ) → n ≡ length order → zs ≡ order ++ replicate (1024 - length order) 0 → Listed b messages rows out (listed_reply n) zs
   unfolding list_reply list_left
-  was-listed e n zs f g r h =
+  was-listed e n zs f g =
       record {
-        reply = pick can true (listed_reply (length order)) unlisted r e (h ∙ ap listed_reply f);
+        reply = pick can true (listed_reply (length order)) unlisted _ e (ap listed_reply f);
         left = pick can true (laid_numbers order) out zs e g;
       }
 
-  pub was-not : can ≡ false → (r : Ordered) → r ≡ unlisted → Listed b messages rows out r out
+  pub was-not : can ≡ false → Listed b messages rows out unlisted out
   unfolding list_reply list_left
-  was-not e r h =
+  was-not e =
       record {
-        reply = pick can false (listed_reply (length order)) unlisted r e h;
+        reply = pick can false (listed_reply (length order)) unlisted _ e refl;
         left = pick can false (laid_numbers order) out out e refl;
       }

@@ -1,5 +1,7 @@
 -- What `start` replies: document 01, "Numbers of refusal". 18 first, then n, then m; a refused start gives no bench, and leaves the tables as they were.
-use Rattle.std.specs.Prelude.{ℕ, Bool, cond, not, ◌&&◌, eqb, replicate}
+use Rattle.std.specs.Prelude.{ℕ, Result, Ok, Err, Bool, cond, not, ◌&&◌, eqb, replicate}
+use Rattle.words.specs.declared.refusal.Refusal.{Refusal}
+use Rattle.words.specs.Refusals.{number}
 use Rattle.words.specs.Limits.{most_flight, most_rows}
 use Rattle.words.specs.Ranges.{within}
 use Rattle.state.specs.declared.Bench.{Bench}
@@ -25,6 +27,11 @@ no_bench =
 
 abbrev pub replied : ℕ → Bench → Stepped
 replied refusal bench = record { refusal = refusal; bench = bench }
+
+-- what a result of the code stands for
+abbrev pub started : Result Bench Refusal → Stepped
+started (Ok b) = replied 0 b
+started (Err e) = replied (number e) no_bench
 
 -- a bench in this state, or, refused, none
 unfoldable pub started_by : ℕ → State → Stepped

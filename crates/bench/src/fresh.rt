@@ -27,8 +27,8 @@ pub fn fresh_bench(n: u8, m: u8) -> Bench
         pairs: [pair; 16],
     };
     Bench {
-        n: n,
-        m: m,
+        n,
+        m,
         accepted: 0,
         sent: 0,
         delivered: 0,

@@ -2,70 +2,65 @@
 #![tactic(auto)]
 
 ghost use Rattle.std.specs.Prelude.{◌≡◌, cond, length, replicate};
+ghost use Rattle.words.specs.Refusals.{refusal_number};
 ghost use Rattle.tables.specs.Tables.{empty_message, empty_row};
 ghost use Rattle.state.specs.State.{view};
 ghost use Rattle.state.specs.Tabled.{tabled};
-ghost use Rattle.standing.specs.Status.{statuses, downs};
-ghost use Rattle.bench.specs.Start.{starts, start_reply};
-ghost use Rattle.bench.specs.Listing.{list_reply, list_left};
+ghost use Rattle.standing.specs.Status.{statuses, downs, told};
+ghost use Rattle.bench.specs.Start.{start_refusal, starts, start_reply, started};
+ghost use Rattle.bench.specs.Listing.{list_reply, list_left, listing};
 ghost use Rattle.bench.specs.Reply.{step_reply, step_messages, step_rows};
 
 use advance::advance;
 use judge::is_tabled;
 use order::fill_order;
-use standing::Statuses;
+use standing::{Status, standings_of};
 use state::{Bench, Event, Stepped};
-use tables::{Row, clear_messages, clear_rows, message_count, row_count};
+use tables::{Row, clear_messages, clear_rows};
 use words::Message;
+use words::limits::{MESSAGE_PLACES, PROCESSES, REGISTERS, ROW_PLACES};
+use words::ranges::is_within;
+use words::refusal::{NOT_FORMED, Refusal};
 
 pub mod fresh;
-mod replies;
 
-// The reply to `order`: how many row numbers were laid.
-#[derive(Clone, Copy)]
-pub struct Ordered {
-    pub refusal: u8,
-    pub count: u16,
-}
-
-// Every place of the table is emptied, or none.
-fn clear_messages_if(t: &mut [Message], clear: bool)
-    ensures { t.new ≡ cond clear (replicate (length t.old) empty_message) t.old }
+// The first check that refuses a start.
+fn check_start(n: u8, m: u8, messages: usize, rows: usize) -> Result<(), Refusal>
+    ensures { refusal_number result ≡ start_refusal n m messages rows }
 {
-    if clear {
-        clear_messages(&mut *t);
+    if (messages != MESSAGE_PLACES) | (rows != ROW_PLACES) {
+        return Err(Refusal::NotFormed);
     }
-}
-
-// Every place of the history is emptied, or none.
-fn clear_rows_if(t: &mut [Row], clear: bool)
-    ensures { t.new ≡ cond clear (replicate (length t.old) empty_row) t.old }
-{
-    if clear {
-        clear_rows(&mut *t);
+    if !is_within(n, PROCESSES) {
+        return Err(Refusal::NoProcesses);
     }
+    if !is_within(m, REGISTERS) {
+        return Err(Refusal::NoRegisters);
+    }
+    Ok(())
 }
 
 // A bench of n processes and m registers, over two lent tables.
-pub fn start(n: u8, m: u8, messages: &mut [Message], rows: &mut [Row]) -> Stepped
-    ensures { (result ≡ start_reply n m (length messages.old) (length rows.old))
+pub fn start(n: u8, m: u8, messages: &mut [Message], rows: &mut [Row]) -> Result<Bench, Refusal>
+    ensures { (started result ≡ start_reply n m (length messages.old) (length rows.old))
         × ((messages.new ≡ cond (starts n m (length messages.old) (length rows.old)) (replicate 512 empty_message) messages.old)
         × (rows.new ≡ cond (starts n m (length messages.old) (length rows.old)) (replicate 1024 empty_row) rows.old)) }
 {
-    let places = message_count(&*messages);
-    let history = row_count(&*rows);
-    let clear = replies::is_start(n, m, places, history);
-    clear_messages_if(&mut *messages, clear);
-    clear_rows_if(&mut *rows, clear);
-    replies::start_reply(n, m, places, history)
+    check_start(n, m, messages.len(), rows.len())?;
+    clear_messages(messages);
+    clear_rows(rows);
+    Ok(fresh::fresh_bench(n, m))
 }
 
 // What each process is doing.
-pub fn status(b: Bench, messages: &[Message], rows: &[Row]) -> Statuses
-    ensures { result ≡ cond (tabled b messages.now rows.now) (statuses (view b messages.now rows.now)) (downs 18) }
+pub fn status(b: Bench, messages: &[Message], rows: &[Row]) -> Result<[Status; 7], Refusal>
+    ensures { told result ≡ cond (tabled b messages.now rows.now) (statuses (view b messages.now rows.now)) (downs 18) }
 {
-    let ok = is_tabled(b, messages, rows);
-    replies::standings_if(b, ok)
+    if is_tabled(b, messages, rows) {
+        Ok(standings_of(b))
+    } else {
+        Err(Refusal::NotFormed)
+    }
 }
 
 // One event. A refused one changes nothing.
@@ -74,22 +69,22 @@ pub fn step(b: Bench, event: Event, messages: &mut [Message], rows: &mut [Row]) 
         × ((messages.new ≡ step_messages b event messages.old rows.old)
         × (rows.new ≡ step_rows b event messages.old rows.old)) }
 {
-    if is_tabled(b, &*messages, &*rows) {
-        return advance(&mut *messages, &mut *rows, b, event);
+    if !is_tabled(b, messages, rows) {
+        return Stepped {
+            refusal: NOT_FORMED,
+            bench: b,
+        };
     }
-    replies::refused(b)
+    advance(messages, rows, b, event)
 }
 
-// The one order of the history, as row numbers, laid into a lent table of 1,024 places, with zeros behind it.
-pub fn order(b: Bench, messages: &[Message], rows: &[Row], out: &mut [u16]) -> Ordered
-    ensures { (result ≡ list_reply b messages.now rows.now out.old)
+// The one order of the history, as row numbers, laid into a lent table of 1,024 places, with zeros behind it; how many were laid.
+pub fn order(b: Bench, messages: &[Message], rows: &[Row], out: &mut [u16]) -> Result<u16, Refusal>
+    ensures { (listing result ≡ list_reply b messages.now rows.now out.old)
         × (out.new ≡ list_left b messages.now rows.now out.old) }
 {
-    let formed = is_tabled(b, messages, rows);
-    let places = out.len();
-    if replies::can_list(formed, places) {
-        let count = fill_order(rows, b.rows, &mut *out);
-        return replies::listing(count);
+    if is_tabled(b, messages, rows) & (out.len() == ROW_PLACES) {
+        return Ok(fill_order(rows, b.rows, out));
     }
-    replies::no_listing()
+    Err(Refusal::NotFormed)
 }

@@ -40,14 +40,23 @@ pub fn wagonmoth_verdict(bytes: &[u8]) -> u8
 pub fn wagonmoth_empty_sheet() -> Sheet
     ensures { result ≡ empty_sheet }
 {
-    figures::empty_sheet()
+    Sheet::default()
 }
 
 // A sheet with one schedule more, or 28 and the sheet as it was.
 pub fn wagonmoth_add_schedule(sheet: Sheet, bytes: &[u8]) -> Added
     ensures { result ≡ added sheet bytes.now }
 {
-    sheets::add(sheet, bytes)
+    match sheets::add(sheet, bytes) {
+        Ok(next) => Added {
+            refusal: 0,
+            sheet: next,
+        },
+        Err(overflow) => Added {
+            refusal: overflow.number(),
+            sheet,
+        },
+    }
 }
 
 // The text of a sheet.

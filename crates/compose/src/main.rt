@@ -1,7 +1,7 @@
 // The program: a text from standard input, the schedule file that it stands for to standard output. Text that is none is answered on standard error.
 #![tactic(auto)]
 
-use composing::Composed;
+use composing::NotComposed;
 use script::Fault;
 use std::io;
 
@@ -33,10 +33,9 @@ fn main(rt: HostRuntime) -> io::Result<()> {
     if LONGEST_TEXT < read {
         return eprintln!(rt; "the text has more than 393,216 bytes");
     }
-    let composed = composing::compose(&text[..read], &mut file);
-    match composed {
-        Composed::File(size) => rt.write_all(&file[..size]),
-        Composed::Wrong(line, fault) => complain(&rt, line, fault),
-        Composed::Short => Ok(()),
+    match composing::compose(&text[..read], &mut file) {
+        Ok(size) => rt.write_all(&file[..size]),
+        Err(NotComposed::Wrong { line, fault }) => complain(&rt, line, fault),
+        Err(NotComposed::Short) => Ok(()),
     }
 }

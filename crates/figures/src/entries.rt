@@ -5,12 +5,6 @@ ghost use Rattle.figures.specs.Parts.{file_number, bench_traffic, entry_of};
 use crate::{Entry, History, Traffic};
 use state::{Bench, Stepped};
 
-pub fn rows_of(ran: Stepped) -> u16
-    ensures { result ≡ ran.bench.rows }
-{
-    ran.bench.rows
-}
-
 // A file that starts no bench gives one of 0 processes, and the number is the file's; else it is that of an event, and does not count here.
 fn file_number(refusal: u8, n: u8) -> u8
     ensures { result ≡ file_number refusal n }

@@ -12,7 +12,7 @@ pub mod totals;
 
 // The operations of one kind.
 #[repr(C)]
-#[derive(Clone, Copy)]
+#[derive(Clone, Copy, Default)]
 pub struct Operations {
     pub begun: u64,
     pub completed: u64,
@@ -20,7 +20,7 @@ pub struct Operations {
 
 // Response time minus invocation time over completed operations. The least and the greatest are 0 where the count is.
 #[repr(C)]
-#[derive(Clone, Copy)]
+#[derive(Clone, Copy, Default)]
 pub struct Waits {
     pub count: u64,
     pub sum: u64,
@@ -30,7 +30,7 @@ pub struct Waits {
 
 // What the rows of schedules come to.
 #[repr(C)]
-#[derive(Clone, Copy)]
+#[derive(Clone, Copy, Default)]
 pub struct History {
     pub reads: Operations,
     pub writes: Operations,
@@ -39,7 +39,7 @@ pub struct History {
 
 // What the events of schedules come to.
 #[repr(C)]
-#[derive(Clone, Copy)]
+#[derive(Clone, Copy, Default)]
 pub struct Traffic {
     pub sent: u64,
     pub delivered: u64,
@@ -55,37 +55,37 @@ pub struct Entry {
     pub traffic: Traffic,
 }
 
+// How many numbers schedules are counted under.
+pub const NUMBERS: usize = 32;
+
 // All schedules so far; how many were refused by file by each number, under 0 those that were not; and what those come to.
 #[repr(C)]
 #[derive(Clone, Copy)]
 pub struct Sheet {
     pub schedules: u64,
-    pub files: [u64; 32],
+    pub files: [u64; NUMBERS],
     pub history: History,
     pub traffic: Traffic,
 }
 
-// The reply to a schedule: 0 and the sheet with it, or 28 and the sheet as it was.
+// A sheet that no schedule was added to.
+impl Default for Sheet {
+    ghost is_default = { λ sheet. sheet ≡ empty_sheet };
+
+    fn default() -> Sheet {
+        Sheet {
+            schedules: 0,
+            files: [0; NUMBERS],
+            history: History::default(),
+            traffic: Traffic::default(),
+        }
+    }
+}
+
+// The reply to a schedule as C has it: 0 and the sheet with it, or 28 and the sheet as it was.
 #[repr(C)]
 #[derive(Clone, Copy)]
 pub struct Added {
     pub refusal: u8,
     pub sheet: Sheet,
-}
-
-// A sheet that no schedule was added to.
-pub fn empty_sheet() -> Sheet
-    ensures { result ≡ empty_sheet }
-{
-    Sheet {
-        schedules: 0,
-        files: [0; 32],
-        history: rows::of_no_row(),
-        traffic: Traffic {
-            sent: 0,
-            delivered: 0,
-            lost: 0,
-            left: 0,
-        },
-    }
 }

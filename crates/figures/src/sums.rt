@@ -1,130 +1,102 @@
-// Sums of what schedules come to, and whether they stay within 64 bits.
-ghost use Rattle.std.specs.Prelude.{◌≡◌, ◌+◌, min, max};
+// Sums of what schedules come to, and that they stay within 64 bits.
+ghost use Rattle.std.specs.Prelude.{◌≡◌, SomeIff};
 ghost use Rattle.figures.specs.Figures.{
-  in64,
   lesser,
-  operations_fit,
   plus_operations,
-  waits_fit,
   plus_waits,
-  history_fits,
   plus_history,
-  traffic_fits,
   plus_traffic,
 };
 ghost use Rattle.figures.specs.Parts.{OperationsRoom, WaitsRoom, HistoryRoom, TrafficRoom};
 
 use crate::{History, Operations, Traffic, Waits};
 
-const MOST: u64 = 18446744073709551615;
+// What schedules come to, added one to another.
+pub trait Total: Sized {
+    ghost sum: { Self → Self → Self };
 
-pub fn fits(a: u64, b: u64) -> bool
-    ensures { result ≡ in64 (a + b) }
-{
-    b <= MOST - a
-}
+    // No total of the sum passes 64 bits.
+    ghost room: { Self → Self → Type 0 };
 
-fn smaller(a: u64, b: u64) -> u64
-    ensures { result ≡ min a b }
-{
-    if a < b {
-        return a;
-    }
-    b
-}
+    // Both together, if there is room.
+    fn checked_plus(self, other: Self) -> Option<Self>
+        ensures { SomeIff result (room self other) (sum self other) };
 
-fn larger(a: u64, b: u64) -> u64
-    ensures { result ≡ max a b }
-{
-    if a < b {
-        return b;
-    }
-    a
-}
-
-// The least of both, where one may have none.
-fn least_of(some: u64, least: u64, others: u64, other: u64) -> u64
-    ensures { result ≡ lesser some least others other }
-{
-    if some == 0 {
-        return other;
-    }
-    if others == 0 {
-        return least;
-    }
-    smaller(least, other)
-}
-
-fn operations_fit(a: Operations, b: Operations) -> bool
-    ensures { result ≡ operations_fit (plus_operations a b) }
-{
-    fits(a.begun, b.begun) & fits(a.completed, b.completed)
-}
-
-fn plus_operations(a: Operations, b: Operations) -> Operations
-    requires { OperationsRoom a b }
-    ensures { result ≡ plus_operations a b }
-{
-    Operations {
-        begun: a.begun + b.begun,
-        completed: a.completed + b.completed,
+    // Both together, where there is room.
+    final fn plus(self, other: Self) -> Self
+        requires { room self other }
+        ensures { result ≡ sum self other }
+    {
+        self.checked_plus(other).unwrap()
     }
 }
 
-fn waits_fit(a: Waits, b: Waits) -> bool
-    ensures { result ≡ waits_fit (plus_waits a b) }
-{
-    fits(a.count, b.count) & fits(a.sum, b.sum)
-}
+impl Total for Operations {
+    ghost sum = { plus_operations };
 
-fn plus_waits(a: Waits, b: Waits) -> Waits
-    requires { WaitsRoom a b }
-    ensures { result ≡ plus_waits a b }
-{
-    Waits {
-        count: a.count + b.count,
-        sum: a.sum + b.sum,
-        least: least_of(a.count, a.least, b.count, b.least),
-        greatest: larger(a.greatest, b.greatest),
+    ghost room = { OperationsRoom };
+
+    fn checked_plus(self, other: Operations) -> Option<Operations> {
+        Some(Operations {
+            begun: self.begun.checked_add(other.begun)?,
+            completed: self.completed.checked_add(other.completed)?,
+        })
     }
 }
 
-pub fn history_fits(a: History, b: History) -> bool
-    ensures { result ≡ history_fits (plus_history a b) }
-{
-    operations_fit(a.reads, b.reads)
-        & operations_fit(a.writes, b.writes)
-        & waits_fit(a.waits, b.waits)
-}
-
-pub fn plus_history(a: History, b: History) -> History
-    requires { HistoryRoom a b }
-    ensures { result ≡ plus_history a b }
-{
-    History {
-        reads: plus_operations(a.reads, b.reads),
-        writes: plus_operations(a.writes, b.writes),
-        waits: plus_waits(a.waits, b.waits),
+impl Waits {
+    // The least of both, where one may have none.
+    fn least_with(self, other: Waits) -> u64
+        ensures { result ≡ lesser self.count self.least other.count other.least }
+    {
+        match (self.count, other.count) {
+            (0, _) => other.least,
+            (_, 0) => self.least,
+            _ => self.least.min(other.least),
+        }
     }
 }
 
-pub fn traffic_fits(a: Traffic, b: Traffic) -> bool
-    ensures { result ≡ traffic_fits (plus_traffic a b) }
-{
-    fits(a.sent, b.sent)
-        & fits(a.delivered, b.delivered)
-        & fits(a.lost, b.lost)
-        & fits(a.left, b.left)
+impl Total for Waits {
+    ghost sum = { plus_waits };
+
+    ghost room = { WaitsRoom };
+
+    fn checked_plus(self, other: Waits) -> Option<Waits> {
+        Some(Waits {
+            count: self.count.checked_add(other.count)?,
+            sum: self.sum.checked_add(other.sum)?,
+            least: self.least_with(other),
+            greatest: self.greatest.max(other.greatest),
+        })
+    }
 }
 
-pub fn plus_traffic(a: Traffic, b: Traffic) -> Traffic
-    requires { TrafficRoom a b }
-    ensures { result ≡ plus_traffic a b }
-{
-    Traffic {
-        sent: a.sent + b.sent,
-        delivered: a.delivered + b.delivered,
-        lost: a.lost + b.lost,
-        left: a.left + b.left,
+impl Total for History {
+    ghost sum = { plus_history };
+
+    ghost room = { HistoryRoom };
+
+    fn checked_plus(self, other: History) -> Option<History> {
+        Some(History {
+            reads: self.reads.checked_plus(other.reads)?,
+            writes: self.writes.checked_plus(other.writes)?,
+            waits: self.waits.checked_plus(other.waits)?,
+        })
+    }
+}
+
+impl Total for Traffic {
+    ghost sum = { plus_traffic };
+
+    ghost room = { TrafficRoom };
+
+    fn checked_plus(self, other: Traffic) -> Option<Traffic> {
+        Some(Traffic {
+            sent: self.sent.checked_add(other.sent)?,
+            delivered: self.delivered.checked_add(other.delivered)?,
+            lost: self.lost.checked_add(other.lost)?,
+            left: self.left.checked_add(other.left)?,
+        })
     }
 }

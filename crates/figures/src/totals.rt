@@ -1,60 +1,56 @@
 // A sheet, and one schedule more on it.
-ghost use Rattle.std.specs.Prelude.{◌≡◌, ◌+◌, ◌<◌, ◌^◌, get_or};
-ghost use Rattle.figures.specs.Figures.{one_more, entered, sheet_fits, added_or28};
+ghost use Rattle.std.specs.Prelude.{◌≡◌, ◌<◌, SomeIff};
+ghost use Rattle.figures.specs.Figures.{entered, added_or28};
 ghost use Rattle.figures.specs.Parts.{SheetRoom};
+ghost use Rattle.figures.specs.Replies.{added_reply};
 
-use crate::{Added, Entry, Sheet, sums};
+use crate::sums::Total;
+use crate::{Entry, Sheet};
+use std::error::Error;
+use std::fmt;
 
 const PASSES_64_BITS: u8 = 28;
 
-fn one_more(files: [u64; 32], number: usize) -> [u64; 32]
-    requires { (number < 32) × (get_or files number 0 + 1 < 2 ^ 64) }
-    ensures { result ≡ one_more number files }
-{
-    let mut next = files;
-    next[number] = files[number] + 1;
-    next
+// A total would pass 64 bits, and the schedule is not added.
+#[derive(Clone, Copy, Debug, PartialEq, Eq)]
+pub struct Overflow;
+
+impl Overflow {
+    pub fn number(self) -> u8
+        ensures { result ≡ 28 }
+    {
+        PASSES_64_BITS
+    }
 }
 
-// Whether no total passes 64 bits.
-fn sheet_fits(sheet: Sheet, entry: Entry) -> bool
+impl fmt::Display for Overflow {
+    fn fmt<W: fmt::Write>(&self, f: &mut fmt::Formatter<W>) -> fmt::Result {
+        f.write_str("refused 28, a total would pass 64 bits")
+    }
+}
+
+impl Error for Overflow {}
+
+// The sheet with one schedule more, if no total passes 64 bits.
+fn with_entry(sheet: Sheet, entry: Entry) -> Option<Sheet>
     requires { entry.refusal < 32 }
-    ensures { result ≡ sheet_fits entry.refusal (entered sheet entry) }
+    ensures { SomeIff result (SheetRoom sheet entry) (entered sheet entry) }
 {
-    let files = sheet.files;
-    let number = entry.refusal as usize;
-    sums::fits(sheet.schedules, 1)
-        & sums::fits(files[number], 1)
-        & sums::history_fits(sheet.history, entry.history)
-        & sums::traffic_fits(sheet.traffic, entry.traffic)
+    let number = usize::from(entry.refusal);
+    let mut next = Sheet {
+        schedules: sheet.schedules.checked_add(1)?,
+        history: sheet.history.checked_plus(entry.history)?,
+        traffic: sheet.traffic.checked_plus(entry.traffic)?,
+        ..sheet
+    };
+    next.files[number] = sheet.files[number].checked_add(1)?;
+    Some(next)
 }
 
-fn with_entry(sheet: Sheet, entry: Entry) -> Sheet
-    requires { SheetRoom sheet entry }
-    ensures { result ≡ entered sheet entry }
-{
-    let files = sheet.files;
-    Sheet {
-        schedules: sheet.schedules + 1,
-        files: one_more(files, entry.refusal as usize),
-        history: sums::plus_history(sheet.history, entry.history),
-        traffic: sums::plus_traffic(sheet.traffic, entry.traffic),
-    }
-}
-
-// The sheet with one schedule more, or as it was.
-pub fn enter(sheet: Sheet, entry: Entry) -> Added
+// The sheet with one schedule more, if no total passes 64 bits.
+pub fn enter(sheet: Sheet, entry: Entry) -> Result<Sheet, Overflow>
     requires { entry.refusal < 32 }
-    ensures { result ≡ added_or28 sheet entry }
+    ensures { added_reply sheet result ≡ added_or28 sheet entry }
 {
-    if sheet_fits(sheet, entry) {
-        return Added {
-            refusal: 0,
-            sheet: with_entry(sheet, entry),
-        };
-    }
-    Added {
-        refusal: PASSES_64_BITS,
-        sheet: sheet,
-    }
+    with_entry(sheet, entry).ok_or(Overflow)
 }

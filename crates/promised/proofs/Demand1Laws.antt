@@ -20,17 +20,15 @@ use Rattle.state.specs.Reached.{Reached, start}
 use Rattle.state.proofs.Sized.{reached-sized}
 use Rattle.state.proofs.WellLaws.{well}
 use Rattle.standing.specs.declared.Status.TheVariants.{Down}
-use Rattle.standing.specs.declared.Statuses.{Statuses}
-use Rattle.standing.specs.Status.{standing_of, statuses, downs}
+use Rattle.standing.specs.Status.{Statuses, statuses, downs}
 use Rattle.advance.specs.Good.{bench-is, messages-are, rows_are}
 use Rattle.advance.proofs.TabledLaws.{view-laid, laid-tabled, tabled-well, tabled-sized, step-well, step-sized}
 use Rattle.format.specs.Format.{file_refusal}
 use Rattle.format.proofs.FileLaws.{Opens}
 use Rattle.order.specs.Operations.{order_of}
-use Rattle.bench.specs.declared.Ordered.{Ordered}
 use Rattle.bench.specs.Start.{no_bench, replied, started_by, start_reply, starts}
 use Rattle.bench.specs.Reply.{step_reply, step_messages, step_rows}
-use Rattle.bench.specs.Listing.{listed_reply, unlisted, laid_numbers, list_reply, list_left}
+use Rattle.bench.specs.Listing.{Ordered, listed_reply, unlisted, laid_numbers, list_reply, list_left}
 use Rattle.schedule.specs.Opening.{opening_refusal, ran_file, run_reply, run_messages, run_rows}
 use Rattle.schedule.proofs.OpeningLaws.{opens-file}
 use Rattle.schedule.proofs.FileLaws.{begun-reached, file-reached}
@@ -89,7 +87,7 @@ module _ (b : Bench) (messages : List Message) (rows : List Row) where
   status-first true = refl
   status-first false = refl
 
-  status-refused : (t : Bool) → IsRefused (standing t).refusal → (standing t).of ≡ replicate 7 (standing_of Down)
+  status-refused : (t : Bool) → IsRefused (standing t).refusal → (standing t).of ≡ replicate 7 Down
   unfolding statuses downs
   status-refused true n = absurd (n refl)
   status-refused false n = refl

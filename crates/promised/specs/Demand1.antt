@@ -10,8 +10,7 @@ use Rattle.state.specs.State.{view}
 use Rattle.state.specs.Tabled.{tabled}
 use Rattle.state.specs.Reached.{Reached}
 use Rattle.standing.specs.declared.Status.TheVariants.{Down}
-use Rattle.standing.specs.declared.Statuses.{Statuses}
-use Rattle.standing.specs.Status.{standing_of, statuses, downs}
+use Rattle.standing.specs.Status.{Statuses, statuses, downs}
 use Rattle.bench.specs.Start.{no_bench, starts, start_reply}
 use Rattle.bench.specs.Reply.{step_reply, step_messages, step_rows}
 use Rattle.bench.specs.Listing.{list_reply, list_left}
@@ -51,7 +50,7 @@ pub record OfStep (f : Bench → Event → List Message → List Row → Given) 
 pub record OfStatus (f : Bench → List Message → List Row → Statuses) : Type 0 where
   pub first : (b : Bench) (messages : List Message) (rows : List Row) → (f b messages rows).refusal ≡ first_of (status_checks b messages rows)
   -- a refused status reads down
-  pub refused : (b : Bench) (messages : List Message) (rows : List Row) → IsRefused (f b messages rows).refusal → (f b messages rows).of ≡ replicate 7 (standing_of Down)
+  pub refused : (b : Bench) (messages : List Message) (rows : List Row) → IsRefused (f b messages rows).refusal → (f b messages rows).of ≡ replicate 7 Down
 
 -- how many rows are listed, and what the lent table of row numbers then holds; the bench's own tables are lent to be read only
 pub record Listing : Type 0 where

@@ -7,7 +7,7 @@ ghost use Rattle.schedule.specs.Opening.{run_reply};
 ghost use Rattle.replaying.specs.Replayed.{rows_left, replayed, replay_reply, replay_left, Fronts};
 
 use order::fill_order;
-use report::put_report;
+use report::by_number::put_report;
 use schedule::run;
 use state::Stepped;
 use tables::{Row, empty_message, empty_row};

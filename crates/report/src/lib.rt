@@ -1,46 +1,50 @@
 // The text of a bench and its lent tables, written into a lent buffer.
 #![tactic(auto)]
 
+pub mod by_number;
+
 ghost use Rattle.std.specs.Prelude.{◌+◌, ◌*◌, ◌≤◌, length, take};
+ghost use Rattle.text.specs.Paged.{Room, Adds};
 ghost use Rattle.text.specs.Printed.{row_lines};
 ghost use Rattle.text.specs.Short.{ShortBench, ShortRows};
-ghost use Rattle.text.specs.Written.{Wrote};
+ghost use Rattle.words.specs.Stops.{stop_number};
 ghost use Rattle.report.specs.Reported.{Reported};
 
 use state::Bench;
-use tables::{Row, row_at};
+use tables::Row;
 use text::lines::put_run_line;
+use text::page::Page;
 use text::rows::put_row_line;
 use text::tail::put_tail;
+use words::refusal::Refusal;
 
-// The lines of the first `count` rows, whose times have at most five digits.
-pub fn put_rows(buf: &mut [u8], at: usize, rows: &[Row], count: u16) -> usize
-    requires { (at + 68 * count ≤ length buf.old) × ((count ≤ length rows.now) × ((count ≤ 1024) × ShortRows count rows.now)) }
-    ensures { Wrote at (row_lines 1 (take count rows.now)) (68 * count) buf.old buf.new result }
+// The lines of the rows, whose times have at most five digits.
+pub fn put_rows(page: &mut Page<'_>, rows: &[Row])
+    requires { Room (68 * length rows.now) page.old × ((length rows.now ≤ 1024) × ShortRows (length rows.now) rows.now) }
+    ensures { Adds (row_lines 1 rows.now) (68 * length rows.now) page.old page.new }
 {
-    let mut next = at;
-    let mut i = 0;
-    while i < count {
-        let row = row_at(rows, i as usize);
-        next = put_row_line(&mut *buf, next, i + 1, row);
-        i = i + 1;
+    for (i, row) in rows.iter().enumerate() {
+        put_row_line(page, i as u16 + 1, row);
     }
-    next
 }
 
-// The whole text of a replay that started a bench.
+// The whole text of a replay that started a bench, and what stopped it; the order is that of its rows.
 pub fn put_report(
-    buf: &mut [u8],
-    bench: Bench,
-    refusal: u8,
+    out: &mut [u8],
+    bench: &Bench,
+    stopped: Option<Refusal>,
     rows: &[Row],
     order: &[u16],
-    count: usize,
 ) -> usize
-    requires { (81563 ≤ length buf.old) × ((bench.n ≤ 7) × ((bench.m ≤ 16) × ((bench.rows ≤ length rows.now) × ((bench.rows ≤ 1024) × ((count ≤ length order.now) × ((count ≤ 1024) × (ShortBench bench × ShortRows bench.rows rows.now))))))) }
-    ensures { Reported bench refusal rows.now (take count order.now) buf.old buf.new result }
+    requires { (81563 ≤ length out.old) × ((bench.now.n ≤ 7) × ((bench.now.m ≤ 16) × ((bench.now.rows ≤ length rows.now) × ((bench.now.rows ≤ 1024) × ((length order.now ≤ 1024) × (ShortBench bench.now × ShortRows bench.now.rows rows.now)))))) }
+    ensures { Reported bench.now (stop_number stopped) rows.now order.now out.old out.new result }
 {
-    let a = put_run_line(&mut *buf, 0, bench.n, bench.m, bench.accepted, refusal);
-    let b = put_rows(&mut *buf, a, rows, bench.rows);
-    put_tail(&mut *buf, b, bench, order, count)
+    let mut page = Page {
+        bytes: out,
+        used: 0,
+    };
+    put_run_line(&mut page, bench, stopped);
+    put_rows(&mut page, &rows[..bench.rows as usize]);
+    put_tail(&mut page, bench, order);
+    page.used
 }

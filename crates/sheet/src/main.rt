@@ -2,6 +2,8 @@
 #![tactic(auto)]
 
 use figures::Sheet;
+use figures::totals::Overflow;
+use sheet_text::LONGEST_TEXT;
 use std::env::Env;
 use std::fs::File;
 use std::{fs, io, str};
@@ -9,19 +11,8 @@ use std::{fs, io, str};
 // A thousand replays take long enough to ask how far it is.
 const FILES_A_LINE: usize = 1000;
 
-// The sheet after a file, and whether the file could be read.
-#[derive(Clone, Copy)]
-struct Turn {
-    sheet: Sheet,
-    read: bool,
-}
-
-// The sheet after all files, and how many of them could not be read.
-#[derive(Clone, Copy)]
-struct Work {
-    sheet: Sheet,
-    unread: usize,
-}
+// One byte more than the longest schedule has, so that a longer one is refused and not cut.
+const BYTES: usize = 65537;
 
 // Says what failed, in the system's words: std's have a number behind them.
 fn fail(rt: &HostRuntime, what: &[u8], error: io::Error) -> io::Result<()> {
@@ -31,33 +22,20 @@ fn fail(rt: &HostRuntime, what: &[u8], error: io::Error) -> io::Result<()> {
     eprintln!(rt; ": {words}")
 }
 
-fn refused(rt: &HostRuntime, name: &[u8]) -> io::Result<()> {
+fn refused(rt: &HostRuntime, name: &[u8], overflow: Overflow) -> io::Result<()> {
     rt.stderr().write_all(name)?;
-    eprintln!(rt; ": refused 28, a total would pass 64 bits")
+    eprintln!(rt; ": {overflow}")
 }
 
-// The schedule in an open file. A folder can be opened and not read. Where standard error can't be written either, the sheet goes on all the same.
-fn add_open(rt: &HostRuntime, sheet: Sheet, mut file: File, name: &[u8]) -> Turn {
-    // One byte more than the longest schedule has, so that a longer one is refused and not cut.
-    let mut bytes = [0u8; 65537];
-    match input::read_full(&mut file, &mut bytes) {
-        Ok(read) => {
-            let added = sheets::add(sheet, &bytes[..read]);
-            if added.refusal != 0 {
-                let _ = refused(rt, name);
-            }
-            let next = added.sheet;
-            Turn {
-                sheet: next,
-                read: true,
-            }
-        }
-        Err(error) => {
-            let _ = fail(rt, name, error);
-            Turn {
-                sheet: sheet,
-                read: false,
-            }
+// The schedule in an open file. A folder can be opened and not read. Where standard error can't be written, the sheet goes on all the same.
+fn add_open(rt: &HostRuntime, sheet: Sheet, mut file: File, name: &[u8]) -> io::Result<Sheet> {
+    let mut bytes = [0u8; BYTES];
+    let read = input::read_full(&mut file, &mut bytes)?;
+    match sheets::add(sheet, &bytes[..read]) {
+        Ok(next) => Ok(next),
+        Err(overflow) => {
+            let _ = refused(rt, name, overflow);
+            Ok(sheet)
         }
     }
 }
@@ -70,18 +48,16 @@ fn open(rt: &HostRuntime, name: &[u8]) -> io::Result<File> {
     }
 }
 
-// The schedule in the file that an argument names.
-fn add_named(rt: &HostRuntime, sheet: Sheet, i: usize) -> Turn {
+// The sheet with the schedule in the file that an argument names, if the file can be read.
+fn add_named(rt: &HostRuntime, sheet: Sheet, i: usize) -> Option<Sheet> {
     let mut name = [0u8; 4096];
     let length = rt.arg(i, &mut name).unwrap_or(0);
-    match open(rt, &name[..length]) {
-        Ok(file) => add_open(rt, sheet, file, &name[..length]),
+    let name = &name[..length];
+    match open(rt, name).and_then(|file| add_open(rt, sheet, file, name)) {
+        Ok(next) => Some(next),
         Err(error) => {
-            let _ = fail(rt, &name[..length], error);
-            Turn {
-                sheet: sheet,
-                read: false,
-            }
+            let _ = fail(rt, name, error);
+            None
         }
     }
 }
@@ -93,31 +69,23 @@ fn tell(rt: &impl Eprint, done: usize, all: usize) {
     }
 }
 
-// Argument 0 is the program.
-fn add_all(rt: &HostRuntime, arguments: usize) -> Work {
-    let mut sheet = figures::empty_sheet();
+// Adds the schedules in all files to a sheet, and gives how many files could not be read. Argument 0 is the program.
+fn add_all(rt: &HostRuntime, sheet: &mut Sheet, arguments: usize) -> usize {
     let mut unread = 0;
-    let mut i = 1;
-    while i < arguments {
-        let turn = add_named(rt, sheet, i);
-        sheet = turn.sheet;
-        if !turn.read {
-            unread += 1;
+    for i in 1..arguments {
+        match add_named(rt, *sheet, i) {
+            Some(next) => *sheet = next,
+            None => unread += 1,
         }
         tell(rt, i, arguments - 1);
-        i += 1;
     }
-    Work {
-        sheet: sheet,
-        unread: unread,
-    }
+    unread
 }
 
 fn main(rt: HostRuntime) -> io::Result<()> {
-    let work = add_all(&rt, input::argument_count(&rt));
-    let sheet = work.sheet;
-    let unread = work.unread;
-    let mut text = [0u8; 1409];
+    let mut sheet = Sheet::default();
+    let unread = add_all(&rt, &mut sheet, input::argument_count(&rt));
+    let mut text = [0u8; LONGEST_TEXT];
     let written = sheet_text::print(sheet, &mut text);
     let printed = rt.write_all(&text[..written]);
     if unread != 0 {

@@ -1,21 +1,22 @@
 -- The statuses by their numbers; and what the code finds of a bench, place by place, is the status of the state that it holds, whatever the tables.
-use Rattle.std.specs.Prelude.{ℕ, zero, suc, ◌+◌, ◌≤◌, ◌≡◌, refl, List, [], ◌∷◌, map, Bool, true, false, cond, leb, replicate}
-use Rattle.std.proofs.Common.{ap, ap₂, arith}
+use Rattle.std.specs.Prelude.{ℕ, zero, suc, ◌+◌, ◌-◌, ◌≤◌, ◌≡◌, refl, List, [], ◌∷◌, map, Bool, true, false, cond, not, leb, length, count_by, get_or, take, drop, replicate}
+use Rattle.std.proofs.Common.{ap, ap₂, ◌∙◌, sym, arith}
+use Rattle.std.proofs.Math.Seq.{drop-cons}
+use Rattle.std.proofs.lemmas.List.Sums.{sum_by-cons}
 use Rattle.words.specs.Quorum.{majority_of}
 use Rattle.words.specs.declared.Message.{Message}
 use Rattle.tables.specs.declared.Row.{Row}
+use Rattle.replica.specs.declared.Replica.{Replica}
 use Rattle.state.specs.declared.Bench.{Bench}
-use Rattle.state.specs.State.{State, view, replica_of}
+use Rattle.state.specs.State.{State, view, fresh_replica, replica_of}
 use Rattle.replica.specs.Handlers.{is_idle}
 use Rattle.standing.specs.declared.Status.TheVariants.{Down, Idle, Waiting, Stuck}
-use Rattle.standing.specs.declared.Standing.{Standing}
-use Rattle.standing.specs.declared.Statuses.{Statuses}
-use Rattle.standing.specs.Status.{status_number, statuses, downs, standings, standings_of, enough, enough_up, up_from}
+use Rattle.standing.specs.Status.{Statuses, status_number, statuses, downs, standings, standings_of, enough, enough_up, up_from}
 
 -- ---- 0 is down, 1 idle, 2 waiting, 3 stuck
 
 abbrev pub numbers_of : Statuses → List ℕ
-numbers_of t = map (λ (at : Standing). status_number at.status) t.of
+numbers_of t = map status_number t.of
 
 -- the number of process p: 0 if it crashed or stands behind N; 1 if it has no operation pending; 2 if it has and a majority is up, otherwise 3
 abbrev pub number_at : State → ℕ → ℕ
@@ -38,7 +39,7 @@ statuses-numbered s = numbered 1 7
     from p zero = []
     from p (suc left) = p ∷ from (suc p) left
 
-    numbered : (p left : ℕ) → map (λ (at : Standing). status_number at.status) (standings s p left) ≡ map (number_at s) (from p left)
+    numbered : (p left : ℕ) → map status_number (standings s p left) ≡ map (number_at s) (from p left)
     numbered p zero = refl
     numbered p (suc left) =
         let r = replica_of s p in
@@ -51,26 +52,28 @@ downs-numbered refusal = refl
 
 -- ---- what the code finds
 
--- those up among 1..n, place by place up to 7
-up_sum : State → ℕ → ℕ → ℕ
-up_sum s n p = cond (leb p n) (cond (replica_of s p).crashed 0 1) 0
+-- those up among the processes behind p, as many as are left
+abbrev up : Replica → Bool
+up r = not r.crashed
 
-up-sum : (s : State) (n : ℕ) → n ≤ 7 → up_from s 1 n ≡ up_sum s n 1 + up_sum s n 2 + up_sum s n 3 + up_sum s n 4 + up_sum s n 5 + up_sum s n 6 + up_sum s n 7
-unfolding up_sum
-up-sum s zero h = omega arith
-up-sum s (suc zero) h = omega arith
-up-sum s (suc (suc zero)) h = omega arith
-up-sum s (suc (suc (suc zero))) h = omega arith
-up-sum s (suc (suc (suc (suc zero)))) h = omega arith
-up-sum s (suc (suc (suc (suc (suc zero))))) h = omega arith
-up-sum s (suc (suc (suc (suc (suc (suc zero)))))) h = omega arith
-up-sum s (suc (suc (suc (suc (suc (suc (suc zero))))))) h = omega arith
-up-sum s (suc (suc (suc (suc (suc (suc (suc (suc n)))))))) h = absurd (omega arith)
+one-up : (crashed : Bool) (k : ℕ) → cond crashed 0 1 + k ≡ cond (not crashed) 1 0 + k
+one-up true k = refl
+one-up false k = refl
 
-enough-same : (b : Bench) (messages : List Message) (rows : List Row) → b.n ≤ 7 → enough (view b messages rows) ≡ enough_up b
-unfolding up_sum
-enough-same b messages rows h = ap (leb (majority_of b.n)) (up-sum (view b messages rows) b.n h)
+up-same : (s : State) (p left : ℕ) → p + left ≤ length s.replicas → up_from s (suc p) left ≡ count_by up (take left (drop p s.replicas))
+up-same s p zero h = refl
+up-same s p (suc left) h =
+    let r = get_or s.replicas p fresh_replica in
+    let last : suc p - 1 ≡ p = omega arith in
+    one-up (replica_of s (suc p)).crashed (up_from s (suc (suc p)) left)
+    ∙ ap (λ k. cond (up (get_or s.replicas k fresh_replica)) 1 0 + up_from s (suc (suc p)) left) last
+    ∙ ap (λ k. cond (up r) 1 0 + k) (up-same s (suc p) left (omega (arith, h)))
+    ∙ sym (sum_by-cons (λ x. cond (up x) 1 0) r (take left (drop (suc p) s.replicas)))
+    ∙ sym (ap (λ rs. count_by up (take (suc left) rs)) (drop-cons s.replicas p fresh_replica (omega (arith, h))))
 
-pub statuses-same : (b : Bench) (messages : List Message) (rows : List Row) → b.n ≤ 7 → statuses (view b messages rows) ≡ standings_of b
+enough-same : (b : Bench) (messages : List Message) (rows : List Row) → b.n ≤ 7 → length b.replicas ≡ 7 → enough (view b messages rows) ≡ enough_up b
+enough-same b messages rows h l = ap (leb (majority_of b.n)) (up-same (view b messages rows) 0 b.n (omega (arith, h, l)))
+
+pub statuses-same : (b : Bench) (messages : List Message) (rows : List Row) → b.n ≤ 7 → length b.replicas ≡ 7 → statuses (view b messages rows) ≡ record { refusal = 0; of = standings_of b }
 unfolding statuses
-statuses-same b messages rows h = rw (enough-same b messages rows h)
+statuses-same b messages rows h l = rw (enough-same b messages rows h l)

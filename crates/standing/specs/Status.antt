@@ -1,5 +1,8 @@
 -- The status of each process: document 01, "Status".
-use Rattle.std.specs.Prelude.{ℕ, zero, suc, ◌+◌, ◌-◌, Bool, cond, List, [], ◌∷◌, leb, get_or, replicate}
+use Rattle.std.specs.Prelude.{ℕ, Result, Ok, Err, zero, suc, ◌+◌, Bool, cond, not, List, [], ◌∷◌, map, leb, ltb, count_by, get_or, take, replicate}
+use Rattle.std.specs.List.{range_with_len}
+use Rattle.words.specs.declared.refusal.Refusal.{Refusal}
+use Rattle.words.specs.Refusals.{number}
 use Rattle.words.specs.Quorum.{majority_of}
 use Rattle.replica.specs.declared.Replica.{Replica}
 use Rattle.replica.specs.Handlers.{is_idle}
@@ -7,8 +10,6 @@ use Rattle.state.specs.declared.Bench.{Bench}
 use Rattle.state.specs.State.{State, fresh_replica, replica_of}
 use Rattle.standing.specs.declared.Status.{Status}
 use Rattle.standing.specs.declared.Status.TheVariants.{Down, Idle, Waiting, Stuck}
-use Rattle.standing.specs.declared.Standing.{Standing}
-use Rattle.standing.specs.declared.Statuses.{Statuses}
 
 -- document 01 names them in this order
 abbrev pub status_number : Status → ℕ
@@ -29,36 +30,40 @@ up_from s p (suc left) = cond (replica_of s p).crashed 0 1 + up_from s (suc p) l
 abbrev pub enough : State → Bool
 enough s = leb (majority_of s.n) (up_from s 1 s.n)
 
-abbrev pub standing_of : Status → Standing
-standing_of status = record { status = status }
+-- what a bench replies: its number of refusal, and the status of each process in the order of their numbers
+pub record Statuses : Type 0 where
+  pub refusal : ℕ
+  pub of : List Status
 
 -- places behind N read down
-abbrev pub standings : State → ℕ → ℕ → List Standing
+abbrev pub standings : State → ℕ → ℕ → List Status
 standings s p zero = []
-standings s p (suc left) = standing_of (cond (leb p s.n) (status_of (replica_of s p) (enough s)) Down) ∷ standings s (suc p) left
+standings s p (suc left) = cond (leb p s.n) (status_of (replica_of s p) (enough s)) Down ∷ standings s (suc p) left
 
 unfoldable pub statuses : State → Statuses
 statuses s = record { refusal = 0; of = standings s 1 7 }
 
 -- a refused status reads down everywhere
 unfoldable pub downs : ℕ → Statuses
-downs refusal = record { refusal = refusal; of = replicate 7 (standing_of Down) }
+downs refusal = record { refusal = refusal; of = replicate 7 Down }
 
--- ---- the same of a bench, place by place, as the code finds it; `StatusLaws` says that it is the same
+-- what a result of the code stands for
+abbrev pub told : Result (List Status) Refusal → Statuses
+told (Ok of) = record { refusal = 0; of = of }
+told (Err e) = downs (number e)
 
-abbrev pub standing_at : Bench → ℕ → Bool → Standing
-standing_at b p enough = standing_of (cond (leb p b.n) (status_of (get_or b.replicas (p - 1) fresh_replica) enough) Down)
-
-abbrev pub up_at : Bench → ℕ → ℕ
-up_at b p = cond (leb p b.n) (cond (get_or b.replicas (p - 1) fresh_replica).crashed 0 1) 0
+-- ---- the same of a bench, as the code finds it; `StatusLaws` says that it is the same
 
 abbrev pub enough_up : Bench → Bool
-enough_up b = leb (majority_of b.n) (up_at b 1 + up_at b 2 + up_at b 3 + up_at b 4 + up_at b 5 + up_at b 6 + up_at b 7)
+enough_up b = leb (majority_of b.n) (count_by (λ (r : Replica). not r.crashed) (take b.n b.replicas))
 
-abbrev pub standings_of : Bench → Statuses
-standings_of b =
-    let e = enough_up b in
-    record {
-      refusal = 0;
-      of = standing_at b 1 e ∷ (standing_at b 2 e ∷ (standing_at b 3 e ∷ (standing_at b 4 e ∷ (standing_at b 5 e ∷ (standing_at b 6 e ∷ (standing_at b 7 e ∷ []))))));
-    }
+-- places behind N read down
+abbrev pub standing_of : Replica → Bool → Bool → Status
+standing_of r is_used enough = cond is_used (status_of r enough) Down
+
+-- the process at a place, counted from 0
+abbrev pub standing_at : Bench → Bool → ℕ → Status
+standing_at b enough at = standing_of (get_or b.replicas at fresh_replica) (ltb at b.n) enough
+
+abbrev pub standings_of : Bench → List Status
+standings_of b = map (standing_at b (enough_up b)) (range_with_len 0 7)

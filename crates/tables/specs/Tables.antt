@@ -2,22 +2,11 @@
 -- empty message (a query, all fields 0). Unused rows are all 0, their kind read.
 use Rattle.std.specs.Prelude.{ℕ, zero, suc, ◌+◌, cond, List, [], ◌∷◌, ◌++◌, eqb, pos, length, take, drop, Option, Some, None}
 use Rattle.words.specs.declared.Message.{Message}
-use Rattle.words.specs.declared.Body.TheVariants.{Query}
+pub use Rattle.words.specs.Messages.{empty_message}
 use Rattle.words.specs.Stamps.{start_stamp}
 use Rattle.tables.specs.declared.Replied.{Replied}
 use Rattle.tables.specs.declared.Row.{Row}
 use Rattle.tables.specs.declared.Kind.TheVariants.{Read}
-
-abbrev pub empty_message : Message
-empty_message =
-    record {
-      number = 0;
-      from = record { 0 = 0 };
-      to = record { 0 = 0 };
-      time = record { 0 = 0 };
-      rid = record { 0 = 0 };
-      body = Query 0;
-    }
 
 -- no phase has ended: nobody replied to one that has
 abbrev pub nobody : Replied

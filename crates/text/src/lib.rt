@@ -6,6 +6,7 @@ pub mod lines;
 mod listing;
 pub mod numbers;
 pub mod page;
+pub mod refused;
 mod registers;
 mod replicas;
 pub mod rows;

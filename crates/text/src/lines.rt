@@ -1,12 +1,19 @@
 // The lines that are made of a few numbers.
 ghost use Rattle.std.specs.Prelude.{◌+◌, ◌≤◌, ◌++◌, length};
-ghost use Rattle.text.specs.Lines.{run_text, state_text, proc_text, count_text};
-ghost use Rattle.text.specs.Printed.{number, printed_refusal};
+ghost use Rattle.text.specs.Lines.{run_text, state_text, count_text};
+ghost use Rattle.text.specs.Paged.{Room, Adds};
+ghost use Rattle.text.specs.Printed.{number, printed_refusal, proc_line};
 ghost use Rattle.text.specs.Short.{Short};
 ghost use Rattle.text.specs.Written.{Wrote};
+ghost use Rattle.words.specs.Stops.{stop_number};
 
 use crate::bytes::{NEWLINE, put_byte, put_word};
-use crate::numbers::{put_number, put_small, put_time};
+use crate::numbers::{Number, put_small};
+use crate::page::Page;
+use crate::refused::put_stopped;
+use replica::Replica;
+use state::Bench;
+use words::refusal::Refusal;
 
 pub fn put_refusal(buf: &mut [u8], at: usize, refusal: u8) -> usize
     requires { at + 14 ≤ length buf.old }
@@ -17,62 +24,66 @@ pub fn put_refusal(buf: &mut [u8], at: usize, refusal: u8) -> usize
     put_byte(&mut *buf, b, NEWLINE)
 }
 
-pub fn put_run_line(buf: &mut [u8], at: usize, n: u8, m: u8, accepted: u16, refusal: u8) -> usize
-    requires { at + 28 ≤ length buf.old }
-    ensures { Wrote at (run_text n m accepted refusal) 28 buf.old buf.new result }
+// The first line: the bench, and what stopped the run.
+pub fn put_run_line(page: &mut Page<'_>, bench: &Bench, stopped: Option<Refusal>)
+    requires { Room 28 page.old }
+    ensures { Adds (run_text bench.now.n bench.now.m bench.now.accepted (stop_number stopped)) 28 page.old page.new }
 {
-    let a = put_word(&mut *buf, at, b"run");
-    let b = put_small(&mut *buf, a, n as u16);
-    let c = put_small(&mut *buf, b, m as u16);
-    let d = put_small(&mut *buf, c, accepted);
-    let e = put_small(&mut *buf, d, refusal as u16);
-    put_byte(&mut *buf, e, NEWLINE)
+    page.put_str("run");
+    page.put_number(bench.n);
+    page.put_number(bench.m);
+    page.put_number(bench.accepted);
+    put_stopped(page, stopped);
+    page.put_byte(b'\n');
 }
 
-fn put_state(buf: &mut [u8], at: usize, crashed: bool) -> usize
-    requires { at + 5 ≤ length buf.old }
-    ensures { Wrote at (state_text crashed) 5 buf.old buf.new result }
+// The same where the refusal is known by its number.
+pub fn put_run_by_number(page: &mut Page<'_>, bench: &Bench, refusal: u8)
+    requires { Room 28 page.old }
+    ensures { Adds (run_text bench.now.n bench.now.m bench.now.accepted refusal) 28 page.old page.new }
 {
-    if crashed {
-        return put_word(&mut *buf, at, b" down");
-    }
-    put_word(&mut *buf, at, b" up")
+    page.put_str("run");
+    page.put_number(bench.n);
+    page.put_number(bench.m);
+    page.put_number(bench.accepted);
+    page.put_number(refusal);
+    page.put_byte(b'\n');
 }
 
-pub fn put_proc_line(buf: &mut [u8], at: usize, p: u8, clock: u32, crashed: bool) -> usize
-    requires { (at + 22 ≤ length buf.old) × Short clock }
-    ensures { Wrote at (proc_text p clock crashed) 22 buf.old buf.new result }
+fn put_state(page: &mut Page<'_>, crashed: bool)
+    requires { Room 5 page.old }
+    ensures { Adds (state_text crashed) 5 page.old page.new }
 {
-    let a = put_word(&mut *buf, at, b"proc");
-    let b = put_small(&mut *buf, a, p as u16);
-    let c = put_time(&mut *buf, b, clock);
-    let d = put_state(&mut *buf, c, crashed);
-    put_byte(&mut *buf, d, NEWLINE)
+    page.put_str(if crashed { " down" } else { " up" });
+}
+
+pub fn put_proc_line(page: &mut Page<'_>, p: u8, replica: &Replica)
+    requires { Room 22 page.old × Short replica.now.clock.0 }
+    ensures { Adds (proc_line p replica.now) 22 page.old page.new }
+{
+    page.put_str("proc");
+    page.put_number(p);
+    page.put_time(replica.clock);
+    put_state(page, replica.crashed);
+    page.put_byte(b'\n');
 }
 
 // A word and a number.
-fn put_named(buf: &mut [u8], at: usize, word: &[u8], n: u32) -> usize
-    requires { at + length word.now + 21 ≤ length buf.old }
-    ensures { Wrote at (word.now ++ number n) (length word.now + 21) buf.old buf.new result }
+fn put_named<N: Number>(page: &mut Page<'_>, word: &str, n: N)
+    requires { Room (length word.now + N.most) page.old }
+    ensures { Adds (word.now ++ number (N.value n)) (length word.now + N.most) page.old page.new }
 {
-    let a = put_word(&mut *buf, at, word);
-    put_number(&mut *buf, a, n as u64)
+    page.put_str(word);
+    page.put_number(n);
 }
 
-pub fn put_count_line(
-    buf: &mut [u8],
-    at: usize,
-    sent: u32,
-    delivered: u32,
-    lost: u32,
-    flight: u16,
-) -> usize
-    requires { at + 111 ≤ length buf.old }
-    ensures { Wrote at (count_text sent delivered lost flight) 111 buf.old buf.new result }
+pub fn put_count_line(page: &mut Page<'_>, bench: &Bench)
+    requires { Room 111 page.old }
+    ensures { Adds (count_text bench.now.sent bench.now.delivered bench.now.lost bench.now.flight) 111 page.old page.new }
 {
-    let a = put_named(&mut *buf, at, b"sent", sent);
-    let b = put_named(&mut *buf, a, b" delivered", delivered);
-    let c = put_named(&mut *buf, b, b" lost", lost);
-    let d = put_named(&mut *buf, c, b" flight", flight as u32);
-    put_byte(&mut *buf, d, NEWLINE)
+    put_named(page, "sent", bench.sent);
+    put_named(page, " delivered", bench.delivered);
+    put_named(page, " lost", bench.lost);
+    put_named(page, " flight", bench.flight);
+    page.put_byte(b'\n');
 }

@@ -1,5 +1,5 @@
 -- Document 01's numbers of refusal. 0 is accepted, and no refusal has it.
-use Rattle.std.specs.Prelude.{ℕ}
+use Rattle.std.specs.Prelude.{ℕ, Result, Ok, Err}
 use Rattle.words.specs.declared.refusal.Refusal.{Refusal}
 use Rattle.words.specs.declared.refusal.Refusal.TheVariants.{WrongSize, WrongLength, WrongVersion, NoProcesses, NoRegisters, Unknown, Cut, NoProcess, NoRegister, Crashed, Pending, NoMessage, RecipientCrashed, BothUp, NoRoom, NoRow, Full, NotFormed, ShortOutput}
 
@@ -23,3 +23,8 @@ number NoRow = 16
 number Full = 17
 number NotFormed = 18
 number ShortOutput = 19
+
+-- what a check gives: the number of its refusal, 0 where it passes
+abbrev pub refusal_number : {A : Type 0} → Result A Refusal → ℕ
+refusal_number (Ok a) = 0
+refusal_number (Err e) = number e

@@ -4,28 +4,28 @@ ghost use Rattle.words.specs.Quorum.{member, joined, counted, majority_of};
 
 use crate::limits::PROCESSES;
 
+#[tactic(auto, unfolding(crate::specs::Quorum::member))]
 pub fn has(repliers: u8, process: u8) -> bool
     ensures { result ≡ member repliers process }
 {
-    if PROCESSES < process {
-        return false;
-    }
-    (repliers >> process) % 2 == 1
+    process <= PROCESSES && (repliers >> process) % 2 == 1
 }
 
+#[tactic(auto, unfolding(crate::specs::Quorum::joined))]
 pub fn with(repliers: u8, process: u8) -> u8
     ensures { result ≡ joined repliers process }
 {
-    if PROCESSES < process {
-        return repliers;
+    if process <= PROCESSES {
+        repliers | (1 << process)
+    } else {
+        repliers
     }
-    repliers | (1u8 << process)
 }
 
 pub fn size(repliers: u8) -> u32
     ensures { result ≡ counted repliers }
 {
-    u8::count_ones(repliers)
+    repliers.count_ones()
 }
 
 pub fn majority(n: u8) -> u8
@@ -38,5 +38,5 @@ pub fn majority(n: u8) -> u8
 pub fn is_majority(repliers: u8, n: u8) -> bool
     ensures { result ≡ leb (majority_of n) (counted repliers) }
 {
-    majority(n) as u32 <= size(repliers)
+    u32::from(majority(n)) <= size(repliers)
 }

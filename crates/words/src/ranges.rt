@@ -1,6 +1,6 @@
 // The ranges of one number, stamp, pair, envelope or replier set.
-ghost use Rattle.std.specs.Prelude.{◌≡◌, ◌+◌, ◌^◌, ltb};
-ghost use Rattle.words.specs.Ranges.{within, is_zero, stamp_fits, pair_fits, sender_fits, repliers_fit};
+ghost use Rattle.std.specs.Prelude.{◌≡◌};
+ghost use Rattle.words.specs.Ranges.{within, stamp_fits, pair_fits, sender_fits, repliers_fit};
 ghost use Rattle.words.specs.Limits.{most_rows};
 
 use crate::limits::{MOST_RID, MOST_TIME, PROCESSES, ROWS};
@@ -10,37 +10,27 @@ use crate::{Pair, Pid, Rid, Stamp, Time};
 pub fn is_within(x: u8, most: u8) -> bool
     ensures { result ≡ within x most }
 {
-    (x != 0) & (x <= most)
+    (1..=most).contains(&x)
 }
 
 pub fn row_fits(row: u16) -> bool
     ensures { result ≡ within row most_rows }
 {
-    (row != 0) & (row <= ROWS)
+    (1..=ROWS).contains(&row)
 }
 
 // A time of at most `limit`; process 0 exactly when the time is 0, and otherwise 1 to `n`.
 pub fn stamp_fits(s: Stamp, limit: u32, n: u8) -> bool
     ensures { result ≡ stamp_fits limit n s }
 {
-    let time = s.time.0;
-    let process = s.process.0;
-    (time <= limit) & ((time == 0) == (process == 0)) & (process <= n)
-}
-
-fn is_zero(value: i64) -> bool
-    ensures { result ≡ is_zero value }
-{
-    value == 0
+    (s.time.0 <= limit) & ((s.time.0 == 0) == (s.process.0 == 0)) & (s.process.0 <= n)
 }
 
 // A stamp that fits, and with the time 0 the value 0.
 pub fn pair_fits(p: Pair, limit: u32, n: u8) -> bool
     ensures { result ≡ pair_fits limit n p }
 {
-    let stamp = p.stamp;
-    let time = p.stamp.time.0;
-    stamp_fits(stamp, limit, n) & ((time != 0) | is_zero(p.value))
+    stamp_fits(p.stamp, limit, n) & ((p.stamp.time.0 != 0) | (p.value == 0))
 }
 
 // The envelope of a message that was received, from one of `n` processes.
@@ -50,20 +40,9 @@ pub fn sender_fits(n: u8, from: Pid, time: Time, rid: Rid) -> bool
     is_within(from.0, n) & (time.0 <= MOST_TIME) & (rid.0 <= MOST_RID)
 }
 
-// No bit above `n` is set.
-fn none_above(n: u8, repliers: u8) -> bool
-    ensures { result ≡ ltb repliers (2 ^ (n + 1)) }
-{
-    if n < PROCESSES {
-        repliers < (1u8 << (n + 1))
-    } else {
-        true
-    }
-}
-
 // A replier set inside 1 to `n`: bit 0 is no process, and no bit above `n` is set.
 pub fn repliers_fit(n: u8, repliers: u8) -> bool
     ensures { result ≡ repliers_fit n repliers }
 {
-    (repliers % 2 == 0) & none_above(n, repliers)
+    (repliers % 2 == 0) & (u16::from(repliers) < 1 << (n.min(PROCESSES) + 1))
 }

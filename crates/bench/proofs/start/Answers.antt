@@ -1,18 +1,17 @@
--- The two lengths are what `message_count` and `row_count` gave; each table is cleared where the start is accepted.
-use Rattle.std.proofs.Common.{◌∙◌, ap, ℕ, length}
-use Rattle.bench.specs.Start.{starts, start_reply}
-use Rattle.bench.specs.StartLaws.{messages-cleared, rows-cleared}
+-- A start that the checks refuse leaves both tables; any other clears them.
+use Rattle.std.proofs.lemmas.Result.{err_from_is_err_and}
+use Rattle.bench.specs.StartLaws.{was-started, was-refused}
 use Rattle.bench.proofs.start.Goals as goal
+
+pub returns-in_err-check_start : goal.returns-in_err-check_start
+returns-in_err-check_start c =
+    let a = c.args in
+    let p = err_from_is_err_and c.from_residual.result c.from_residual.ensures.1 in
+    let s = was-refused a.n a.m a.messages.now a.rows.now c.in_err-check_start.field-0.0 c.in_err-check_start.ensures in
+    rw (p.1, p.2) (s.reply, (s.messages-left, s.rows_left))
 
 pub returns : goal.returns
 returns c =
     let a = c.args in
-    let clear =
-    c.is_start-clear.ensures ∙ ap (λ (k : ℕ). starts a.n a.m k c.row_count-history.result) c.message_count-places.ensures
-    ∙ ap (λ (k : ℕ). starts a.n a.m (length a.messages.now) k) c.row_count-history.ensures
-    in
-    let reply =
-    c.start_reply.ensures ∙ ap (λ (k : ℕ). start_reply a.n a.m k c.row_count-history.result) c.message_count-places.ensures
-    ∙ ap (λ (k : ℕ). start_reply a.n a.m (length a.messages.now) k) c.row_count-history.ensures
-    in
-    (reply, (messages-cleared a.n a.m a.messages.now a.rows.now _ clear _ c.clear_messages_if.ensures, rows-cleared a.n a.m a.messages.now a.rows.now _ clear _ c.clear_rows_if.ensures))
+    let s = was-started a.n a.m a.messages.now a.rows.now c.in_ok-check_start.ensures _ c.fresh_bench.ensures _ c.clear_messages.ensures _ c.clear_rows.ensures in
+    (s.reply, (s.messages-left, s.rows_left))

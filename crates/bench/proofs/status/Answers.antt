@@ -1,10 +1,12 @@
 -- Of a tabled bench, the standings are those of the state that it holds.
-use Rattle.std.proofs.Common.{◌∙◌, ap, Bool, cond}
-use Rattle.standing.specs.Status.{standings_of, downs}
+use Rattle.std.proofs.Common.{◌∙◌, ap, Bool, List, cond}
+use Rattle.standing.specs.declared.Status.{Status}
+use Rattle.standing.specs.Status.{Statuses, standings_of, downs}
 use Rattle.bench.specs.TabledUse.{standings-same}
 use Rattle.bench.proofs.status.Goals as goal
 
-pub returns : goal.returns
-returns c =
+pub returns-then-is_tabled : goal.returns-then-is_tabled
+returns-then-is_tabled c =
     let a = c.args in
-    c.standings_if.ensures ∙ ap (λ (t : Bool). cond t (standings_of a.b) (downs 18)) c.is_tabled-ok.ensures ∙ standings-same a.b a.messages.now a.rows.now
+    let given : List Status → Statuses = λ of. record { refusal = 0; of = of } in
+    ap given c.standings_of.ensures ∙ ap (λ (t : Bool). cond t (given (standings_of a.b)) (downs 18)) c.if-is_tabled.ensures ∙ standings-same a.b a.messages.now a.rows.now

@@ -6,8 +6,8 @@ use Rattle.sheets.proofs.EntryLaws.{entry-below}
 use Rattle.sheets.proofs.add.Goals as goal
 
 pub enter-requires : goal.enter-requires
-enter-requires c = entry-below c.args.bytes.now c.count_file-entry.result c.count_file-entry.ensures
+enter-requires c = entry-below c.args.bytes.now c.count_file.result c.count_file.ensures
 
 pub returns : goal.returns
 unfolding added
-returns c = c.enter.ensures ∙ ap (added_or28 c.args.sheet) c.count_file-entry.ensures
+returns c = c.enter.ensures ∙ ap (added_or28 c.args.sheet) c.count_file.ensures

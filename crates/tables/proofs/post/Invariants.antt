@@ -1,16 +1,13 @@
--- What a turn begins with: the copies that are still to be laid, from i on, the next of which is m.
-use Rattle.std.proofs.Common.{◌≡◌, ◌+◌, ◌-◌, ◌≤◌, ◌<◌}
+-- What a turn begins with: the copies that are still to be laid over the part, the next of which is m.
+use Rattle.std.proofs.Common.{◌≡◌, ◌+◌, ◌-◌, ◌<◌, length}
 use Rattle.tables.specs.Tables.{copies, laid_at}
 use Rattle.tables.proofs.post.Given as goal
 
-abbrev pub invariant-loop-i : goal.invariant-loop-i
-invariant-loop-i l =
+abbrev pub invariant-loop-place : goal.invariant-loop-place
+invariant-loop-place l =
     record {
-      within : l.i ≤ l.end;
-      numbers : l.m.number + (l.end - l.i) < 4294967296;
-      processes : l.m.to.0 + (l.end - l.i) < 256;
-      same : laid_at l.i (copies l.m (l.end - l.i)) l.t ≡ laid_at l.at (copies l.fn.first l.count) l.fn.t;
+      whole : length l.place-items ≡ l.count;
+      numbers : l.m.number + (l.count - l.place-index) < 4294967296;
+      processes : l.m.to.0 + (l.count - l.place-index) < 256;
+      same : laid_at l.place-index (copies l.m (l.count - l.place-index)) l.place-items ≡ copies l.fn.first l.count;
     }
-
-abbrev pub decreases-loop-i : goal.decreases-loop-i
-decreases-loop-i l = l.end - l.i

@@ -1,6 +1,8 @@
 use Rattle.std.proofs.Common.{refl, arith}
-use Rattle.text.specs.WrittenLaws.{and_next, as_text}
+use Rattle.text.specs.PagedLaws.{adds_next, adds_text}
+use Rattle.text.specs.Printed.{proc_line}
 use Rattle.text.proofs.lines.put_proc_line.Goals as goal
 
 pub returns : goal.returns
-returns c = as_text refl (omega arith) (and_next c.put_word-a.ensures (and_next c.put_small-b.ensures (and_next c.put_time-c.ensures (and_next c.put_state-d.ensures c.put_byte.ensures))))
+unfolding proc_line
+returns c = adds_text refl (omega arith) (adds_next c.put_str.ensures (adds_next c.put_number.ensures (adds_next c.put_time.ensures (adds_next c.put_state.ensures c.put_byte.ensures))))

@@ -1,16 +1,8 @@
--- What a turn begins with: the first i numbers are written.
-use Rattle.std.proofs.Common.{◌≡◌, ◌-◌, ◌*◌, ◌≤◌, length, take}
+-- What a turn begins with: the first so many numbers are written.
+use Rattle.std.proofs.Common.{◌*◌, take}
+use Rattle.text.specs.Paged.{Adds}
 use Rattle.text.specs.Printed.{numbers}
-use Rattle.text.specs.Written.{Wrote}
 use Rattle.text.proofs.listing.put_numbers.Given as goal
 
-abbrev pub invariant-loop-i : goal.invariant-loop-i
-invariant-loop-i l =
-    record {
-      within : l.i ≤ l.count;
-      long : length l.buf ≡ length l.fn.buf;
-      wrote : Wrote l.at (numbers (take l.i l.order)) (6 * l.i) l.fn.buf l.buf l.next;
-    }
-
-abbrev pub decreases-loop-i : goal.decreases-loop-i
-decreases-loop-i l = l.count - l.i
+abbrev pub invariant-loop-number : goal.invariant-loop-number
+invariant-loop-number l = Adds (numbers (take l.number-index l.order)) (6 * l.number-index) l.fn.page l.page

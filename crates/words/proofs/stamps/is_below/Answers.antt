@@ -1,12 +1,20 @@
--- Below 8 processes the ranks compare as the stamps do; the other answer is `below` part by part.
-use Rattle.std.proofs.Common.{rules, ap₂, ◌∙◌, nat_lt}
-use Rattle.words.proofs.RankLaws.{rank-tested}
+-- The derived order compares the times, and where they are equal the processes.
+use Rattle.std.specs.Prelude.{◌≡◌, refl, Bool, true, false, cond, ◌&&◌, ◌||◌, ltb, eqb, Some}
+use Rattle.std.specs.Ordering.{is_lt, is_some_and, partial_ordering_then}
+use Rattle.std.proofs.Common.{◌∙◌, Less, Equal, Greater}
 use Rattle.words.specs.Stamps.{below}
 use Rattle.words.proofs.stamps.is_below.Goals as goal
 
-pub returns-then-a-b : goal.returns-then-a-b
-returns-then-a-b c = ap₂ nat_lt c.rank_of.ensures c.rank_of-then-a-b.ensures ∙ rank-tested c.args.a c.args.b c.if-a-b.true
+parts : (earlier same less alike : Bool) → is_some_and is_lt (partial_ordering_then (Some (cond earlier Less (cond same Equal Greater))) (Some (cond less Less (cond alike Equal Greater)))) ≡ (earlier || (same && less))
+parts true same less alike = refl
+parts false true true alike = refl
+parts false true false true = refl
+parts false true false false = refl
+parts false false less alike = refl
 
 pub returns : goal.returns
 unfolding below
-returns c = search rules
+returns c =
+    let a = c.args.a in
+    let b = c.args.b in
+    c.lt.ensures ∙ parts (ltb a.time.0 b.time.0) (eqb a.time.0 b.time.0) (ltb a.process.0 b.process.0) (eqb a.process.0 b.process.0)

@@ -1,7 +1,0 @@
-use Rattle.std.proofs.Common.{◌∙◌, arith}
-use Rattle.tables.specs.Tables.{empty_row}
-use Rattle.tables.proofs.Laying.{laid_more}
-use Rattle.tables.proofs.clear_rows.Goals as goal
-
-pub loop-i-preserved : goal.loop-i-preserved
-loop-i-preserved c = rw (c.put_row.ensures, c.empty_row.ensures) (laid_more c.loop-i.i _ empty_row c.loop-i.t c.loop-i-test.true (omega arith) ∙ c.loop-i.invariant)
