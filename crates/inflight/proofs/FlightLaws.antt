@@ -1,10 +1,10 @@
 -- What a run over a table of 512 messages says of its file, from whether its bench has processes; and that the text which is written from it is the file's.
 use Rattle.std.specs.Prelude.{ℕ, ◌+◌, ◌-◌, ◌*◌, ◌≤◌, ◌<◌, ◌≡◌, Bool, true, false, List, [], ◌∷◌, ◌++◌, eqb, length, take, get_or, replicate}
 use Rattle.std.proofs.Math.Path.{refl, ap}
-use Rattle.std.proofs.Common.{sym, subst, ◌∙◌, append_assoc, append-nil, arith, add-one, length-append, length-take, take-suc, eqb-true}
+use Rattle.std.proofs.Common.{sym, subst, ◌∙◌, append_assoc, append-nil, arith, length-append, length-take, eqb-true}
 use Rattle.std.proofs.Math.Bool.{cond}
 use Rattle.std.proofs.Math.Seq.{take-append_seam}
-use Rattle.std.proofs.lemmas.List.{length-replicate}
+use Rattle.std.proofs.lemmas.List.{length-replicate, take_more}
 use Rattle.words.specs.declared.Message.{Message}
 use Rattle.tables.specs.declared.Row.{Row}
 use Rattle.tables.specs.Tables.{empty_message}
@@ -36,7 +36,7 @@ pub one-message : (messages : List Message) (i : ℕ) (none : Message) → i < l
     → message_lines (take i messages) ++ message_line (get_or messages i none) ≡ message_lines (take (i + 1) messages)
 one-message messages i none inside =
     sym (lines-last (take i messages) (get_or messages i none))
-    ∙ sym (ap (λ (n : ℕ). message_lines (take n messages)) (add-one i) ∙ ap message_lines (take-suc messages i none inside))
+    ∙ ap message_lines (sym (take_more messages i none inside))
 
 -- ---- a run whose history has 1,024 rows
 

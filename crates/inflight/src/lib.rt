@@ -4,7 +4,6 @@
 
 ghost use Rattle.std.specs.Prelude.{◌≡◌, ◌*◌, ◌≤◌, length, take};
 ghost use Rattle.text.specs.Paged.{Room, Adds};
-ghost use Rattle.text.specs.Printed.{printed_refusal};
 ghost use Rattle.schedule.specs.Opening.{run_reply};
 ghost use Rattle.buffer.specs.Printing.{printed, print_reply, print_left, Fronts};
 ghost use Rattle.inflight.specs.Flight.{message_lines, messages_left, in_flight};
@@ -13,6 +12,7 @@ use schedule::run;
 use state::Stepped;
 use tables::{empty_message, empty_row};
 use text::page::Page;
+use text::refused::put_refused;
 use words::Message;
 use words::limits::{MESSAGE_PLACES, ROW_PLACES};
 use words::refusal::Refusal;
@@ -40,16 +40,6 @@ fn run_messages(messages: &mut [Message], bytes: &[u8]) -> Stepped
     run(messages, &mut rows, bytes)
 }
 
-// The line of a refusal by its number.
-fn put_number_refused(page: &mut Page<'_>, refusal: u8)
-    requires { Room 14 page.old }
-    ensures { Adds (printed_refusal refusal) 14 page.old page.new }
-{
-    page.put_str("refused");
-    page.put_number(refusal);
-    page.put_byte(b'\n');
-}
-
 // The text. A file that starts no bench gives one of 0 processes.
 fn put_flight(page: &mut Page<'_>, bytes: &[u8])
     requires { Room 73728 page.old }
@@ -58,7 +48,7 @@ fn put_flight(page: &mut Page<'_>, bytes: &[u8])
     let mut messages = [empty_message(); MESSAGE_PLACES];
     let ran = run_messages(&mut messages, bytes);
     if ran.bench.n == 0 {
-        put_number_refused(page, ran.refusal);
+        put_refused(page, ran.refusal);
     } else {
         put_messages(page, &messages[..ran.bench.flight as usize]);
     }

@@ -13,7 +13,7 @@ pub put_messages-requires : goal.put_messages-requires
 put_messages-requires c = omega (arith, few-lines (flown c.args.bytes.now _ c.run_messages-ran.ensures c.if-ran-eq0.false))
 
 pub returns-then-ran-eq0 : goal.returns-then-ran-eq0
-returns-then-ran-eq0 c = refused c.args.bytes.now _ c.run_messages-ran.ensures c.if-ran-eq0.true c.put_number_refused.ensures
+returns-then-ran-eq0 c = refused c.args.bytes.now _ c.run_messages-ran.ensures c.if-ran-eq0.true c.put_refused.ensures
 
 pub returns-else-ran-eq0 : goal.returns-else-ran-eq0
 returns-else-ran-eq0 c = text-written (flown c.args.bytes.now _ c.run_messages-ran.ensures c.if-ran-eq0.false) c.put_messages.ensures

@@ -1,7 +1,7 @@
 use Rattle.std.proofs.Common.{refl, arith}
 use Rattle.text.specs.PagedLaws.{adds_next, adds_text}
 use Rattle.text.specs.Printed.{printed_refusal}
-use Rattle.inflight.proofs.put_number_refused.Goals as goal
+use Rattle.text.proofs.refused.put_refused.Goals as goal
 
 pub returns : goal.returns
 unfolding printed_refusal
