@@ -1,26 +1,18 @@
 -- What is written from a run is the history file of its schedule; and that it stands at the front of the buffer.
-use Rattle.std.specs.Prelude.{ℕ, ◌+◌, ◌-◌, ◌≤◌, ◌<◌, ◌≡◌, Bool, true, false, not, replicate}
-use Rattle.std.proofs.Math.Path.{refl, sym, ap, subst}
-use Rattle.std.proofs.Common.{◌∙◌, arith, length-take, eqb-true, eq-eqb, le-leb}
+use Rattle.std.specs.Prelude.{ℕ, ◌+◌, ◌-◌, ◌≤◌, ◌<◌, ◌≡◌, Bool, true, false, replicate}
+use Rattle.std.proofs.Math.Path.{sym, ap, subst}
+use Rattle.std.proofs.Common.{◌∙◌, arith, length-take, eq-eqb, le-leb}
 use Rattle.std.proofs.Math.Bool.{cond}
 use mathlib.Core.List.{List, ◌++◌}
 use Rattle.std.proofs.Math.Dec.{eqb}
 use Rattle.std.proofs.Math.ListN.{length, take}
-use Rattle.std.proofs.lemmas.Bool.{not-false, lt-leb}
+use Rattle.std.proofs.lemmas.Bool.{lt-leb}
 use Rattle.tables.specs.declared.Row.{Row}
 use Rattle.tables.specs.Tables.{laid_at}
 use Rattle.state.specs.Stepped.{Stepped}
-use Rattle.state.specs.State.{State, laid_messages}
-use Rattle.state.specs.Tabled.{bench_of}
-use Rattle.state.proofs.Keeps.{reached-well-formed}
-use Rattle.state.proofs.WellLaws.{well}
-use Rattle.advance.proofs.TabledLaws.{holds-view}
 use Rattle.order.specs.Operations.{order_of}
-use Rattle.bench.specs.Start.{no_bench, replied}
 use Rattle.format.specs.Format.{file_refusal}
-use Rattle.format.proofs.FileLaws.{file-opens}
-use Rattle.schedule.specs.Opening.{opening_refusal, ran_file, run_reply}
-use Rattle.schedule.proofs.FileLaws.{file-reached}
+use Rattle.schedule.specs.Opening.{ran_file}
 use Rattle.text.specs.Printed.{printed_refusal}
 use Rattle.text.specs.Written.{Wrote}
 use Rattle.text.specs.LaidLaws.{laid-length}
