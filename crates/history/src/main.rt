@@ -18,7 +18,7 @@ fn main(rt: HostRuntime) -> io::Result<()> {
     let mut bytes = [0u8; 65537];
     let mut file = [0u8; 14345];
     let read = input::read_full(&mut rt.stdin(), &mut bytes)?;
-    let written = recording::history(&bytes[..read], &mut file);
+    let written = recording::history(&bytes[..read], &mut file).unwrap();
     if rt.write_all(&file[..written]).is_err() {
         eprintln!(rt; "history: the file could not be written to standard output")?;
     }

@@ -32,7 +32,7 @@ fn number(word: &[u8; 6]) -> u64 {
 fn replay_all(bytes: &[u8], text: &mut [u8], count: u64) {
     let mut left = count;
     while left > 1 {
-        replaying::replay(bytes, &mut *text);
+        let _ = replaying::replay(bytes, text);
         left -= 1;
     }
 }
@@ -46,6 +46,6 @@ fn main(rt: HostRuntime) -> io::Result<()> {
     let count = number(&word);
     let read = input::read_full(&mut rt.stdin(), &mut bytes)?;
     replay_all(&bytes[..read], &mut text, count);
-    let written = replaying::replay(&bytes[..read], &mut text);
+    let written = replaying::replay(&bytes[..read], &mut text).unwrap();
     rt.write_all(&text[..written])
 }

@@ -18,7 +18,7 @@ fn main(rt: HostRuntime) -> io::Result<()> {
     let mut bytes = [0u8; 65537];
     let mut text = [0u8; 81563];
     let read = input::read_full(&mut rt.stdin(), &mut bytes)?;
-    let written = replaying::replay(&bytes[..read], &mut text);
+    let written = replaying::replay(&bytes[..read], &mut text).unwrap();
     if rt.write_all(&text[..written]).is_err() {
         eprintln!(rt; "replay: the text could not be written to standard output")?;
     }
