@@ -3,6 +3,7 @@
 
 use figures::Sheet;
 use figures::totals::Overflow;
+use format::file::LONGEST;
 use sheet_text::LONGEST_TEXT;
 use std::env::Env;
 use std::fs::File;
@@ -12,7 +13,7 @@ use std::{fs, io, str};
 const FILES_A_LINE: usize = 1000;
 
 // One byte more than the longest schedule has, so that a longer one is refused and not cut.
-const BYTES: usize = 65537;
+const BYTES: usize = LONGEST + 1;
 
 // Says what failed, in the system's words: std's have a number behind them.
 fn fail(rt: &HostRuntime, what: &[u8], error: io::Error) -> io::Result<()> {
