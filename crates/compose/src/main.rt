@@ -1,7 +1,7 @@
 // The program: a text from standard input, the schedule file that it stands for to standard output. Text that is none is answered on standard error.
 #![tactic(auto)]
 
-use composing::{Composed, LONGEST_COMPLAINT};
+use composing::{LONGEST_COMPLAINT, NotComposed};
 use format::file::LONGEST;
 use script::Fault;
 use std::io;
@@ -27,9 +27,9 @@ fn main(rt: HostRuntime) -> io::Result<()> {
             return eprintln!(rt; "the text has more than 393,216 bytes");
         }
         match composing::compose(text, &mut file) {
-            Composed::File(size) => rt.write_all(&file[..size]),
-            Composed::Wrong(line, fault) => complain(&rt, line, fault),
-            Composed::Short => Ok(()),
+            Ok(size) => rt.write_all(&file[..size]),
+            Err(NotComposed::Wrong { line, fault }) => complain(&rt, line, fault),
+            Err(NotComposed::Short) => Ok(()),
         }
     })
 }

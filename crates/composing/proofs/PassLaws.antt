@@ -1,201 +1,144 @@
--- The passes over a text, line by line: what is left to do, from the line at a place and what stands behind it.
-use Rattle.std.specs.Prelude.{ℕ, suc, ◌+◌, ◌-◌, ◌≤◌, ◌<◌, ◌≡◌, refl, Bool, true, false, cond, not, List, [], ◌∷◌, ◌++◌, ltb, length, take, drop}
-use Rattle.std.proofs.Common.{sym, ap, ◌∙◌, append_assoc, append-nil, arith, add-one, length-append, length-drop, drop-drop, lt-ltb, le-ltb}
+-- The passes over a text, line by line: what is left to do, from the first of the lines that are left and those behind it.
+use Rattle.std.specs.Prelude.{ℕ, suc, ◌+◌, ◌≤◌, ◌≡◌, refl, Bool, true, false, cond, not, List, [], ◌∷◌, ◌++◌, eqb, ltb, length, Result, Ok, Err}
+use Rattle.std.proofs.Common.{sym, ap, ◌∙◌, append_assoc, append-nil, arith, add-one, length-append}
 use Rattle.words.specs.Ranges.{within}
 use Rattle.text.specs.Written.{Wrote}
 use Rattle.text.specs.WrittenLaws.{and_next, as_text, nothing}
 use Rattle.state.specs.declared.Event.{Event}
 use Rattle.writing.specs.Bytes.{event_bytes, events_bytes}
 use Rattle.script.specs.declared.Fault.{Fault}
-use Rattle.script.specs.declared.Fault.TheVariants.{NoBench, Processes, Registers, TooLong}
+use Rattle.script.specs.declared.Fault.TheVariants.{Processes, Registers, TooLong}
 use Rattle.script.specs.declared.Line.{Line}
-use Rattle.script.specs.declared.Line.TheVariants.{Blank, Bench, Does, Wrong}
-use Rattle.script.specs.Lines.{before, behind, newline, lines}
-use Rattle.script.proofs.LineLaws.{lines-first, drop-behind, take-before, before-within}
-use Rattle.script.specs.ScanLaws.{at-end}
+use Rattle.script.specs.declared.Line.TheVariants.{Blank, Bench, Does}
+use Rattle.script.specs.Lines.{newline, lines, longer}
 use Rattle.script.specs.Meaning.{line_of}
-use Rattle.composing.specs.declared.Opening.TheVariants as O
-use Rattle.composing.specs.declared.Parted.{Parted}
-use Rattle.composing.specs.declared.Survey.TheVariants as S
+use Rattle.composing.specs.declared.NotComposed.{NotComposed}
+use Rattle.composing.specs.declared.NotComposed.TheVariants as C
+use Rattle.composing.specs.declared.Opening.{Opening}
 use Rattle.composing.specs.Script.{Listed, listed, faulty, preceded, followed, following, wrong, as_script, begun, opened, opening, script_of}
-use Rattle.composing.specs.Passes.{Parts, Opens, surveyed, joined_to, events_in}
+use Rattle.composing.specs.Passes.{Opens, surveyed, grown, line_bytes, joined_to, events_in}
 
--- ---- one line is parted from a text
+-- a text has no more lines than bytes
+pub lines_few : (text : List ℕ) → length (lines text) ≤ length text
+lines_few [] = omega arith
+lines_few (b ∷ rest) = go (eqb b newline) (longer-few (lines rest)) (lines_few rest)
+  where
+    longer-few : (ls : List (List ℕ)) → length (longer b ls) ≤ length ls + 1
+    longer-few [] = omega arith
+    longer-few (first ∷ others) = omega arith
 
-module _ (text : List ℕ) (at end : ℕ) (inside : at < length text) (ends : end ≡ at + length (before newline (drop at text))) where
-  left-long : length (drop at text) ≡ length text - at
-  left-long = length-drop at text
+    go : (t : Bool) → length (longer b (lines rest)) ≤ length (lines rest) + 1 → length (lines rest) ≤ length rest → length (cond t ([] ∷ lines rest) (longer b (lines rest))) ≤ length (b ∷ rest)
+    go true l m = omega (arith, m)
+    go false l m = omega (arith, l, m)
 
-  pub end-inside : end ≤ length text
-  end-inside = omega (arith, ends, before-within newline (drop at text), left-long, inside)
-
-  pub line-is : take (end - at) (drop at text) ≡ before newline (drop at text)
-  line-is =
-      let long : end - at ≡ length (before newline (drop at text)) = omega (arith, ends) in
-      ap (λ (n : ℕ). take n (drop at text)) long ∙ take-before newline (drop at text)
-
-  -- one place further on than its end
-  past_end : drop (end + 1) text ≡ behind newline (drop at text)
-  past_end =
-      let same : end + 1 ≡ at + suc (length (before newline (drop at text))) = omega (arith, ends) in
-      ap (λ (n : ℕ). drop n text) same ∙ sym (drop-drop (suc (length (before newline (drop at text)))) at text) ∙ drop-behind newline (drop at text)
-
-  pub parts_within : (line : Line) → line ≡ line_of (take (end - at) (drop at text)) → end < length text → Parts text at (record { line = line; next = end + 1 })
-  parts_within line e l = record { line = e ∙ ap line_of line-is; rest = past_end; onward = omega (arith, ends); inside = omega (arith, l) }
-
-  pub parts_last : (line : Line) → line ≡ line_of (take (end - at) (drop at text)) → length text ≤ end → Parts text at (record { line = line; next = end })
-  parts_last line e l =
-      record { line = e ∙ ap line_of line-is; rest = at-end text end l ∙ sym (at-end text (end + 1) (omega (arith, l))) ∙ past_end; onward = omega (arith, l, inside); inside = end-inside }
-
-module _ (text : List ℕ) (at : ℕ) (inside : at < length text) (p : Parted) (parts : Parts text at p) where
-  first-line : lines (drop at text) ≡ before newline (drop at text) ∷ lines (drop p.next text)
-  first-line =
-      lines-first (drop at text) (omega (arith, length-drop at text, inside)) ∙ ap (λ (l : List ℕ). before newline (drop at text) ∷ lines l) (sym parts.rest)
-
+module _ (ls : List (List ℕ)) (w : List ℕ) (rest : List (List ℕ)) (first : ls ≡ w ∷ rest) where
   -- ---- the line of the bench
 
-  module _ (i : ℕ) where
-    opening-by : (line : Line) → p.line ≡ line → opening i (lines (drop at text)) ≡ opened i line (opening (i + 1) (lines (drop p.next text))) (lines (drop p.next text))
-    opening-by line e =
-        ap (opening i) first-line ∙ ap (λ (l : Line). opened i l (opening (suc i) (lines (drop p.next text))) (lines (drop p.next text))) (sym parts.line ∙ e)
-        ∙ ap (λ (n : ℕ). opened i line (opening n (lines (drop p.next text))) (lines (drop p.next text))) (sym (add-one i))
+  pub open_by : (i : ℕ) (x : Result Line Fault) → x ≡ line_of w → opening i ls ≡ opened i x (opening (i + 1) rest) rest
+  open_by i x e =
+      ap (opening i) first ∙ ap (λ (l : Result Line Fault). opened i l (opening (suc i) rest) rest) (sym e) ∙ ap (λ (n : ℕ). opened i x (opening n rest) rest) (sym (add-one i))
 
-    pub open-blank : p.line ≡ Blank → opening (i + 1) (lines (drop p.next text)) ≡ opening i (lines (drop at text))
-    open-blank e = sym (opening-by Blank e)
-
-    pub open-bench : (n m : ℕ) → p.line ≡ Bench n m → opening i (lines (drop at text)) ≡ begun i n m (following (i + 1) 7 (lines (drop p.next text)))
-    open-bench n m e = opening-by (Bench n m) e ∙ ap (λ (k : ℕ). begun i n m (following k 7 (lines (drop p.next text)))) (sym (add-one i))
-
-    pub open-event : (event : Event) → p.line ≡ Does event → opening i (lines (drop at text)) ≡ wrong i NoBench
-    open-event event e = opening-by (Does event) e
-
-    pub open-wrong : (fault : Fault) → p.line ≡ Wrong fault → opening i (lines (drop at text)) ≡ wrong i fault
-    open-wrong fault e = opening-by (Wrong fault) e
+  pub open_bench : (i n m : ℕ) → Ok (Bench n m) ≡ line_of w → opening i ls ≡ begun i n m (following (i + 1) 7 rest)
+  open_bench i n m e = open_by i (Ok (Bench n m)) e ∙ ap (λ (k : ℕ). begun i n m (following k 7 rest)) (sym (add-one i))
 
   -- ---- the lines behind it
 
   module _ (i size : ℕ) where
-    following-by : (line : Line) → p.line ≡ line → following i size (lines (drop at text)) ≡ followed i size line (λ more. following (i + 1) more (lines (drop p.next text)))
-    following-by line e =
-        ap (following i size) first-line ∙ ap (λ (l : Line). followed i size l (λ more. following (suc i) more (lines (drop p.next text)))) (sym parts.line ∙ e)
-        ∙ ap (λ (n : ℕ). followed i size line (λ more. following n more (lines (drop p.next text)))) (sym (add-one i))
+    -- what the survey of the lines says after one more line
+    abbrev onward : Result ℕ Fault → Result ℕ NotComposed
+    onward (Ok more) = surveyed more (following (i + 1) more rest)
+    onward (Err fault) = Err (C.Wrong i fault)
 
-    pub survey-blank : p.line ≡ Blank → surveyed size (following (i + 1) size (lines (drop p.next text))) ≡ surveyed size (following i size (lines (drop at text)))
-    survey-blank e = sym (ap (surveyed size) (following-by Blank e))
+    joins : (event : Event) (more : ℕ) → more ≡ size + length (event_bytes event) → (f : Listed) → surveyed more f ≡ surveyed size (preceded event f)
+    joins event more e (listed events) =
+        let sum : more + length (events_bytes events) ≡ size + length (event_bytes event ++ events_bytes events) = omega (arith, e, length-append (event_bytes event) (events_bytes events)) in
+        ap Ok sum
+    joins event more e (faulty line fault) = refl
 
-    pub survey-bench : (n m : ℕ) → p.line ≡ Bench n m → S.Wrong i NoBench ≡ surveyed size (following i size (lines (drop at text)))
-    survey-bench n m e = sym (ap (surveyed size) (following-by (Bench n m) e))
+    goes : (x : Result Line Fault) → onward (grown size x) ≡ surveyed size (followed i size x (λ more. following (i + 1) more rest))
+    goes (Ok Blank) = refl
+    goes (Ok (Bench n m)) = refl
+    goes (Err fault) = refl
+    goes (Ok (Does event)) = by (ltb 65536 (size + length (event_bytes event)))
+      where
+        more : ℕ
+        more = size + length (event_bytes event)
 
-    pub survey-wrong : (fault : Fault) → p.line ≡ Wrong fault → S.Wrong i fault ≡ surveyed size (following i size (lines (drop at text)))
-    survey-wrong fault e = sym (ap (surveyed size) (following-by (Wrong fault) e))
+        by : (t : Bool) → onward (cond t (Err TooLong) (Ok more)) ≡ surveyed size (cond t (faulty i TooLong) (preceded event (following (i + 1) more rest)))
+        by true = refl
+        by false = joins event more refl (following (i + 1) more rest)
 
-    module _ (event : Event) (e : p.line ≡ Does event) (more : ℕ) (grows : more ≡ size + length (event_bytes event)) where
-      abbrev rest : ℕ → Listed
-      rest n = following (i + 1) n (lines (drop p.next text))
-
-      survey-by : (t : Bool) → ltb 65536 more ≡ t → surveyed size (following i size (lines (drop at text))) ≡ surveyed size (cond t (faulty i TooLong) (preceded event (rest more)))
-      survey-by t f =
-          ap (surveyed size) (following-by (Does event) e)
-          ∙ sym (ap (λ (n : ℕ). surveyed size (cond (ltb 65536 n) (faulty i TooLong) (preceded event (rest n)))) grows)
-          ∙ ap (λ (b : Bool). surveyed size (cond b (faulty i TooLong) (preceded event (rest more)))) f
-
-      pub survey-long : 65536 < more → S.Wrong i TooLong ≡ surveyed size (following i size (lines (drop at text)))
-      survey-long l = sym (survey-by true (lt-ltb 65536 more l))
-
-      pub survey-event : more ≤ 65536 → surveyed more (rest more) ≡ surveyed size (following i size (lines (drop at text)))
-      survey-event l = joins (rest more) ∙ sym (survey-by false (le-ltb 65536 more l))
-        where
-          joins : (f : Listed) → surveyed more f ≡ surveyed size (preceded event f)
-          joins (listed events) =
-              let sum : more + length (events_bytes events) ≡ size + length (event_bytes event ++ events_bytes events) = omega (arith, grows, length-append (event_bytes event) (events_bytes events)) in
-              ap S.Size sum
-          joins (faulty line fault) = refl
+    pub survey_by : (r : Result ℕ Fault) → r ≡ grown size (line_of w) → onward r ≡ surveyed size (following i size ls)
+    survey_by r e =
+        ap onward e ∙ goes (line_of w) ∙ ap (λ (k : ℕ). surveyed size (followed i size (line_of w) (λ more. following k more rest))) (add-one i)
+        ∙ sym (ap (λ (l : List (List ℕ)). surveyed size (following i size l)) first)
 
   -- ---- the events among them
 
-  events-by : (line : Line) → p.line ≡ line → events_in (lines (drop at text)) ≡ joined_to line (events_in (lines (drop p.next text)))
-  events-by line e = ap events_in first-line ∙ ap (λ (l : Line). joined_to l (events_in (lines (drop p.next text)))) (sym parts.line ∙ e)
+  pub events_next : events_in ls ≡ joined_to (line_of w) (events_in rest)
+  events_next = ap events_in first
 
-  pub events-blank : p.line ≡ Blank → events_in (lines (drop at text)) ≡ events_in (lines (drop p.next text))
-  events-blank e = events-by Blank e
+  bytes-by : (x : Result Line Fault) → line_bytes x ++ events_bytes (events_in rest) ≡ events_bytes (joined_to x (events_in rest))
+  bytes-by (Ok Blank) = refl
+  bytes-by (Ok (Bench n m)) = refl
+  bytes-by (Ok (Does event)) = refl
+  bytes-by (Err fault) = refl
 
-  pub events-bench : (n m : ℕ) → p.line ≡ Bench n m → events_in (lines (drop at text)) ≡ events_in (lines (drop p.next text))
-  events-bench n m e = events-by (Bench n m) e
-
-  pub events-wrong : (fault : Fault) → p.line ≡ Wrong fault → events_in (lines (drop at text)) ≡ events_in (lines (drop p.next text))
-  events-wrong fault e = events-by (Wrong fault) e
-
-  pub events-event : (event : Event) → p.line ≡ Does event → events_in (lines (drop at text)) ≡ event ∷ events_in (lines (drop p.next text))
-  events-event event e = events-by (Does event) e
+  pub bytes_next : line_bytes (line_of w) ++ events_bytes (events_in rest) ≡ events_bytes (events_in ls)
+  bytes_next = bytes-by (line_of w) ∙ sym (ap events_bytes events_next)
 
 -- ---- at the end
 
-module _ (text : List ℕ) (at : ℕ) (over : length text ≤ at) where
-  no_lines : lines (drop at text) ≡ []
-  no_lines = ap lines (at-end text at over)
-
-  pub open-end : (i : ℕ) → opening i (lines (drop at text)) ≡ wrong i NoBench
-  open-end i = ap (opening i) no_lines
-
-  pub survey-end : (i size : ℕ) → S.Size size ≡ surveyed size (following i size (lines (drop at text)))
-  survey-end i size =
-      let same : size ≡ size + length (events_bytes []) = omega arith in
-      ap S.Size same ∙ sym (ap (λ (ls : List (List ℕ)). surveyed size (following i size ls)) no_lines)
-
-  pub no-events : events_in (lines (drop at text)) ≡ []
-  no-events = ap events_in no_lines
+pub survey_end : (ls : List (List ℕ)) → ls ≡ [] → (i size : ℕ) → Ok size ≡ surveyed size (following i size ls)
+survey_end ls e i size =
+    let same : size ≡ size + length (events_bytes []) = omega arith in
+    ap Ok same ∙ sym (ap (λ (l : List (List ℕ)). surveyed size (following i size l)) e)
 
 -- ---- N and M in range
 
-module _ (text : List ℕ) (n m at i : ℕ) (inside : (at ≤ length text) × (i ≤ at)) (is : script_of text ≡ begun i n m (following (i + 1) 7 (lines (drop at text)))) where
-  begun-by : (t u : Bool) → within n 7 ≡ t → within m 16 ≡ u
-      → script_of text ≡ cond (not t) (wrong i Processes) (cond (not u) (wrong i Registers) (as_script n m (following (i + 1) 7 (lines (drop at text)))))
+module _ (text : List ℕ) (o : Opening) (few : o.number + length (lines o.rest.now) ≤ length (lines text)) (is : script_of text ≡ begun o.number o.n o.m (following (o.number + 1) 7 (lines o.rest.now))) where
+  begun-by : (t u : Bool) → within o.n 7 ≡ t → within o.m 16 ≡ u
+      → script_of text ≡ cond (not t) (wrong o.number Processes) (cond (not u) (wrong o.number Registers) (as_script o.n o.m (following (o.number + 1) 7 (lines o.rest.now))))
   begun-by t u e f =
-      is ∙ ap (λ (b : Bool). cond (not b) (wrong i Processes) (cond (not (within m 16)) (wrong i Registers) (as_script n m (following (i + 1) 7 (lines (drop at text)))))) e
-      ∙ ap (λ (b : Bool). cond (not t) (wrong i Processes) (cond (not b) (wrong i Registers) (as_script n m (following (i + 1) 7 (lines (drop at text)))))) f
+      is ∙ ap (λ (b : Bool). cond (not b) (wrong o.number Processes) (cond (not (within o.m 16)) (wrong o.number Registers) (as_script o.n o.m (following (o.number + 1) 7 (lines o.rest.now))))) e
+      ∙ ap (λ (b : Bool). cond (not t) (wrong o.number Processes) (cond (not b) (wrong o.number Registers) (as_script o.n o.m (following (o.number + 1) 7 (lines o.rest.now))))) f
 
-  pub no-processes : within n 7 ≡ false → Opens text (O.Wrong i Processes)
-  no-processes e = begun-by false (within m 16) e refl
+  pub no-processes : within o.n 7 ≡ false → Opens text (Err (C.Wrong o.number Processes))
+  no-processes e = begun-by false (within o.m 16) e refl
 
-  pub no-registers : within n 7 ≡ true → within m 16 ≡ false → Opens text (O.Wrong i Registers)
+  pub no-registers : within o.n 7 ≡ true → within o.m 16 ≡ false → Opens text (Err (C.Wrong o.number Registers))
   no-registers e f = begun-by true false e f
 
-  pub in-range : within n 7 ≡ true → within m 16 ≡ true → Opens text (O.Bench n m at i)
-  in-range e f = (inside, ((e, f), begun-by true true e f))
+  pub in-range : within o.n 7 ≡ true → within o.m 16 ≡ true → Opens text (Ok o)
+  in-range e f = (few, ((e, f), begun-by true true e f))
 
 -- ---- writing the events
 
--- so much is written, up to a place, and the lines from another on are left
-pub record Puts (to : ℕ) (text : List ℕ) (from : ℕ) (out₀ out : List ℕ) (place at : ℕ) : Type 0 where
+-- so much is written, up to a place, and these lines are left
+pub record Puts (to : ℕ) (all : List (List ℕ)) (out₀ out : List ℕ) (place : ℕ) (left : List (List ℕ)) : Type 0 where
   pub done : List ℕ
   pub wrote : Wrote to done (length done) out₀ out place
-  pub rest : done ++ events_bytes (events_in (lines (drop at text))) ≡ events_bytes (events_in (lines (drop from text)))
-  pub inside : at ≤ length text
+  pub rest : done ++ events_bytes (events_in left) ≡ events_bytes (events_in all)
 
-pub puts-start : (to : ℕ) (text : List ℕ) (from : ℕ) (out : List ℕ) → to ≤ length out → from ≤ length text → Puts to text from out out to from
-puts-start to text from out fits inside = record { done = []; wrote = nothing to out fits; rest = refl; inside = inside }
+pub puts-start : (to : ℕ) (all : List (List ℕ)) (out : List ℕ) → to ≤ length out → Puts to all out out to all
+puts-start to all out fits = record { done = []; wrote = nothing to out fits; rest = refl }
 
-module _ (to : ℕ) (text : List ℕ) (from : ℕ) (out₀ out : List ℕ) (place at : ℕ) (s : Puts to text from out₀ out place at) (next : ℕ) (within-it : next ≤ length text) where
-  pub puts_none : events_in (lines (drop at text)) ≡ events_in (lines (drop next text)) → Puts to text from out₀ out place next
-  puts_none e = record { done = s.done; wrote = s.wrote; rest = sym (ap (λ (es : List Event). s.done ++ events_bytes es) e) ∙ s.rest; inside = within-it }
+module _ (to : ℕ) (all : List (List ℕ)) (out₀ out : List ℕ) (place : ℕ) (left : List (List ℕ)) (s : Puts to all out₀ out place left) where
+  module _ (w : List ℕ) (rest : List (List ℕ)) (first : left ≡ w ∷ rest) where
+    abbrev more : List ℕ
+    more = line_bytes (line_of w)
 
-  module _ (event : Event) (e : events_in (lines (drop at text)) ≡ event ∷ events_in (lines (drop next text))) where
-    abbrev later : List ℕ
-    later = events_bytes (events_in (lines (drop next text)))
+    joined : (s.done ++ more) ++ events_bytes (events_in rest) ≡ events_bytes (events_in all)
+    joined = append_assoc s.done more (events_bytes (events_in rest)) ∙ ap (λ (l : List ℕ). s.done ++ l) (bytes_next left w rest first) ∙ s.rest
 
-    joined : (s.done ++ event_bytes event) ++ later ≡ events_bytes (events_in (lines (drop from text)))
-    joined = append_assoc s.done (event_bytes event) later ∙ sym (ap (λ (es : List Event). s.done ++ events_bytes es) e) ∙ s.rest
+    pub puts_room : to + length (events_bytes (events_in all)) ≤ length out → place + length more ≤ length out
+    puts_room l = omega (arith, l, s.wrote.ends, ap length joined, length-append (s.done ++ more) (events_bytes (events_in rest)), length-append s.done more)
 
-    pub puts-room : to + length (events_bytes (events_in (lines (drop from text)))) ≤ length out → place + length (event_bytes event) ≤ length out
-    puts-room l = omega (arith, l, s.wrote.ends, ap length joined, length-append (s.done ++ event_bytes event) later, length-append s.done (event_bytes event))
+    pub puts_next : (out' : List ℕ) (place' : ℕ) → Wrote place more (length more) out out' place' → Puts to all out₀ out' place' rest
+    puts_next out' place' v = record { done = s.done ++ more; wrote = as_text refl (omega (arith, length-append s.done more)) (and_next s.wrote v); rest = joined }
 
-    pub puts-event : (out' : List ℕ) (place' : ℕ) → Wrote place (event_bytes event) (length (event_bytes event)) out out' place' → Puts to text from out₀ out' place' next
-    puts-event out' place' w =
-        record { done = s.done ++ event_bytes event; wrote = as_text refl (omega (arith, length-append s.done (event_bytes event))) (and_next s.wrote w); rest = joined; inside = within-it }
-
-pub puts-end : (to : ℕ) (text : List ℕ) (from : ℕ) (out₀ out : List ℕ) (place at : ℕ) → Puts to text from out₀ out place at → length text ≤ at
-    → Wrote to (events_bytes (events_in (lines (drop from text)))) (length (events_bytes (events_in (lines (drop from text))))) out₀ out place
-puts-end to text from out₀ out place at s over = as_text text-is (omega (arith, ap length text-is)) s.wrote
-  where
-    text-is : s.done ≡ events_bytes (events_in (lines (drop from text)))
-    text-is = sym (append-nil s.done) ∙ sym (ap (λ (es : List Event). s.done ++ events_bytes es) (no-events text at over)) ∙ s.rest
+  pub puts_end : left ≡ [] → Wrote to (events_bytes (events_in all)) (length (events_bytes (events_in all))) out₀ out place
+  puts_end e = as_text text-is (omega (arith, ap length text-is)) s.wrote
+    where
+      text-is : s.done ≡ events_bytes (events_in all)
+      text-is = sym (append-nil s.done) ∙ sym (ap (λ (ls : List (List ℕ)). s.done ++ events_bytes (events_in ls)) e) ∙ s.rest

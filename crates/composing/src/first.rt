@@ -1,53 +1,64 @@
 // The line of the bench: the first that says anything.
-ghost use Rattle.std.specs.Prelude.{◌≡◌, ◌+◌, ◌≤◌, length, drop};
+ghost use Rattle.std.specs.Prelude.{◌≡◌, ◌+◌, ◌≤◌, length};
 ghost use Rattle.script.specs.Lines.{lines};
 ghost use Rattle.composing.specs.Passes.{Opens};
 ghost use Rattle.composing.specs.Script.{following, begun, script_of};
 
-use crate::Opening;
-use crate::parting::part;
+use crate::{NotComposed, Opening};
+use script::marks::Lines;
+use script::meaning::line_of;
 use script::{Fault, Line};
 use words::limits::{PROCESSES, REGISTERS};
 use words::ranges::is_within;
 
 // N and M have to be in range.
-fn ranged(text: &[u8], n: u8, m: u8, at: usize, i: usize) -> Opening
-    requires { ((at ≤ length text.now) × (i ≤ at)) × (script_of text.now ≡ begun i n m (following (i + 1) 7 (lines (drop at text.now)))) }
+fn ranged<'a>(opening: Opening<'a>, text: &[u8]) -> Result<Opening<'a>, NotComposed>
+    requires { (opening.number + length (lines opening.rest.now) ≤ length (lines text.now)) × (script_of text.now ≡ begun opening.number opening.n opening.m (following (opening.number + 1) 7 (lines opening.rest.now))) }
     ensures { Opens text.now result }
 {
-    if !is_within(n, PROCESSES) {
-        return Opening::Wrong(i, Fault::Processes);
+    if !is_within(opening.n, PROCESSES) {
+        return Err(NotComposed::Wrong {
+            line: opening.number,
+            fault: Fault::Processes,
+        });
     }
-    if !is_within(m, REGISTERS) {
-        return Opening::Wrong(i, Fault::Registers);
+    if !is_within(opening.m, REGISTERS) {
+        return Err(NotComposed::Wrong {
+            line: opening.number,
+            fault: Fault::Registers,
+        });
     }
-    Opening::Bench(n, m, at, i)
+    Ok(opening)
 }
 
-pub fn bench_in(text: &[u8]) -> Opening
+pub fn bench_in(text: &[u8]) -> Result<Opening<'_>, NotComposed>
     ensures { Opens text.now result }
 {
-    let mut at = 0;
-    let mut i = 1;
-    while at < text.len() {
-        let parted = part(text, at);
-        let line = parted.line;
-        let next = parted.next;
-        match line {
-            Line::Blank => {
-                at = next;
-                i += 1;
+    let mut lines = Lines { rest: text };
+    let mut line = 1;
+    while let Some(next) = lines.next() {
+        match line_of(next) {
+            Ok(Line::Blank) => line += 1,
+            Ok(Line::Bench(n, m)) => {
+                let opening = Opening {
+                    n,
+                    m,
+                    number: line,
+                    rest: lines.rest,
+                };
+                return ranged(opening, text);
             }
-            Line::Bench(n, m) => {
-                return ranged(text, n, m, next, i);
+            Ok(Line::Does(_)) => {
+                return Err(NotComposed::Wrong {
+                    line,
+                    fault: Fault::NoBench,
+                });
             }
-            Line::Does(_) => {
-                return Opening::Wrong(i, Fault::NoBench);
-            }
-            Line::Wrong(fault) => {
-                return Opening::Wrong(i, fault);
-            }
+            Err(fault) => return Err(NotComposed::Wrong { line, fault }),
         }
     }
-    Opening::Wrong(i, Fault::NoBench)
+    Err(NotComposed::Wrong {
+        line,
+        fault: Fault::NoBench,
+    })
 }

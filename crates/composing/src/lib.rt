@@ -1,97 +1,68 @@
 // The file of a text: the bytes of a text in, the bytes of a schedule file out, into a lent output.
 #![tactic(auto)]
 
-ghost use Rattle.std.specs.Prelude.{◌≡◌, true, ◌+◌, ◌≤◌, length, drop};
+ghost use Rattle.std.specs.Prelude.{◌≡◌, true, ◌+◌, ◌≤◌, length};
 ghost use Rattle.words.specs.Ranges.{within};
 ghost use Rattle.writing.specs.Bytes.{events_bytes};
 ghost use Rattle.writing.specs.Writing.{write_left};
 ghost use Rattle.script.specs.Lines.{lines};
 ghost use Rattle.buffer.specs.Printing.{print_reply, print_left, Fronts};
 ghost use Rattle.composing.specs.Complaint.{complaint};
-ghost use Rattle.composing.specs.Script.{following, as_script};
-ghost use Rattle.composing.specs.Composed.{replied, left, compose_reply, compose_left};
+ghost use Rattle.composing.specs.Composed.{compose_reply, compose_left};
 ghost use Rattle.composing.specs.Passes.{events_in, filed_as, Fits};
 
 use crate::complaint::put_complaint;
 use crate::first::bench_in;
 use crate::rest::{put_script, survey};
 use buffer::{Printed, SHORT_OUTPUT};
-use script::{Fault, Line};
+use script::Fault;
 use writing::file::put_head;
 
 mod complaint;
 mod first;
-mod parting;
 mod rest;
 
 // No complaint is longer.
 pub const LONGEST_COMPLAINT: usize = 66;
 
-// The size of the file, the line that is wrong and what is wrong with it, or an output that is shorter than the file.
-#[derive(Clone, Copy)]
-pub enum Composed {
-    File(usize),
-    Wrong(usize, Fault),
+// Why there is no file: a line that is wrong, or an output that is shorter than the file.
+#[derive(Clone, Copy, Debug, PartialEq, Eq)]
+pub enum NotComposed {
+    Wrong { line: usize, fault: Fault },
     Short,
 }
 
-// A line of a text, and the place behind it.
+// What the line of the bench says, its number, and the text behind it.
 #[derive(Clone, Copy)]
-pub struct Parted {
-    pub line: Line,
-    pub next: usize,
-}
-
-// The line of the bench: N, M, the place behind it, and its number.
-#[derive(Clone, Copy)]
-pub enum Opening {
-    Bench(u8, u8, usize, usize),
-    Wrong(usize, Fault),
-}
-
-// The size of the file, or the line that is wrong.
-#[derive(Clone, Copy)]
-pub enum Survey {
-    Size(usize),
-    Wrong(usize, Fault),
+pub struct Opening<'a> {
+    pub n: u8,
+    pub m: u8,
+    pub number: usize,
+    pub rest: &'a [u8],
 }
 
 // The file of the lines behind the bench, which were surveyed.
-fn write_script(out: &mut [u8], text: &[u8], from: usize, n: u8, m: u8, size: usize) -> Composed
-    requires from_in_bounds { (from ≤ length text.now) × ((within n 7 ≡ true) × (within m 16 ≡ true)) }
-    requires size_value { (size ≡ 7 + length (events_bytes (events_in (lines (drop from text.now))))) × (size ≤ 65536) }
-    ensures { (result ≡ filed_as size (length out.old)) × (out.new ≡ write_left n m (events_in (lines (drop from text.now))) out.old) }
+fn write_script(out: &mut [u8], opening: Opening<'_>, size: usize) -> Result<usize, NotComposed>
+    requires in_range { (within opening.n 7 ≡ true) × (within opening.m 16 ≡ true) }
+    requires size_value { (size ≡ 7 + length (events_bytes (events_in (lines opening.rest.now)))) × (size ≤ 65536) }
+    ensures { (result ≡ filed_as size (length out.old)) × (out.new ≡ write_left opening.entry.n opening.entry.m (events_in (lines opening.entry.rest.now)) out.old) }
 {
     if out.len() < size {
-        return Composed::Short;
+        return Err(NotComposed::Short);
     }
-    let to = put_head(&mut *out, n, m, size);
-    put_script(&mut *out, to, text, from);
-    Composed::File(size)
-}
-
-// The lines behind the bench, of which the first has this number.
-fn compose_rest(out: &mut [u8], text: &[u8], from: usize, number: usize, n: u8, m: u8) -> Composed
-    requires { ((from ≤ length text.now) × (number ≤ from + 1)) × ((within n 7 ≡ true) × (within m 16 ≡ true)) }
-    ensures { (result ≡ replied (as_script n m (following number 7 (lines (drop from text.now)))) (length out.old)) × (out.new ≡ left (as_script n m (following number 7 (lines (drop from text.now)))) out.old) }
-{
-    let surveyed = survey(text, from, number);
-    match surveyed {
-        Survey::Size(size) => write_script(&mut *out, text, from, n, m, size),
-        Survey::Wrong(i, fault) => Composed::Wrong(i, fault),
-    }
+    let to = put_head(&mut *out, opening.n, opening.m, size);
+    put_script(&mut *out, to, opening.rest);
+    Ok(size)
 }
 
 // The file of a text, at the front of a lent output. Where a line is wrong, or the output is shorter than the file, nothing is written.
-pub fn compose(text: &[u8], out: &mut [u8]) -> Composed
+pub fn compose(text: &[u8], out: &mut [u8]) -> Result<usize, NotComposed>
     ensures value { (result ≡ compose_reply text.now (length out.old)) × (out.new ≡ compose_left text.now out.old) }
     ensures fits { Fits result out.new }
 {
-    let opening = bench_in(text);
-    match opening {
-        Opening::Bench(n, m, from, i) => compose_rest(&mut *out, text, from, i + 1, n, m),
-        Opening::Wrong(i, fault) => Composed::Wrong(i, fault),
-    }
+    let opening = bench_in(text)?;
+    let size = survey(opening.rest, opening.number + 1)?;
+    write_script(&mut *out, opening, size)
 }
 
 // What is said of a line that is wrong, at the front of a lent output. An output of fewer than 66 bytes is refused by 19 and left as it was.

@@ -1,13 +1,15 @@
 // The lines behind the bench: how many bytes they take, and the events themselves.
-ghost use Rattle.std.specs.Prelude.{◌≡◌, ◌+◌, ◌≤◌, length, drop};
+ghost use Rattle.std.specs.Prelude.{◌≡◌, ◌+◌, ◌≤◌, ◌<◌, ◌^◌, length, IfOk};
 ghost use Rattle.text.specs.Written.{Wrote};
 ghost use Rattle.writing.specs.Bytes.{events_bytes};
 ghost use Rattle.script.specs.Lines.{lines};
-ghost use Rattle.composing.specs.Passes.{surveyed, events_in};
+ghost use Rattle.script.specs.Meaning.{line_of};
+ghost use Rattle.composing.specs.Passes.{surveyed, grown, line_bytes, events_in};
 ghost use Rattle.composing.specs.Script.{following};
 
-use crate::Survey;
-use crate::parting::part;
+use crate::NotComposed;
+use script::marks::Lines;
+use script::meaning::line_of;
 use script::{Fault, Line};
 use writing::events::{put_event, size_of};
 
@@ -16,68 +18,61 @@ const HEAD: usize = 7;
 
 const LONGEST: usize = 65536;
 
-pub fn survey(text: &[u8], from: usize, number: usize) -> Survey
-    requires { (from ≤ length text.now) × (number ≤ from + 1) }
-    ensures { result ≡ surveyed 7 (following number 7 (lines (drop from text.now))) }
+// The size of a file with one line more.
+fn grown(size: usize, line: &[u8]) -> Result<usize, Fault>
+    requires { size ≤ 65536 }
+    ensures value { result ≡ grown size (line_of line.now) }
+    ensures short { IfOk result (λ more. more ≤ 65536) }
 {
-    let mut size = HEAD;
-    let mut at = from;
-    let mut i = number;
-    while at < text.len() {
-        let parted = part(text, at);
-        let line = parted.line;
-        let next = parted.next;
-        match line {
-            Line::Blank => {
-                at = next;
-                i += 1;
+    match line_of(line)? {
+        Line::Blank => Ok(size),
+        Line::Bench(_, _) => Err(Fault::NoBench),
+        Line::Does(event) => {
+            let more = size + size_of(event);
+            if LONGEST < more {
+                return Err(Fault::TooLong);
             }
-            Line::Bench(_, _) => {
-                return Survey::Wrong(i, Fault::NoBench);
-            }
-            Line::Does(event) => {
-                let more = size + size_of(event);
-                if LONGEST < more {
-                    return Survey::Wrong(i, Fault::TooLong);
-                }
-                size = more;
-                at = next;
-                i += 1;
-            }
-            Line::Wrong(fault) => {
-                return Survey::Wrong(i, fault);
-            }
+            Ok(more)
         }
     }
-    Survey::Size(size)
+}
+
+// The first of these lines has this number.
+pub fn survey(text: &[u8], number: usize) -> Result<usize, NotComposed>
+    requires { number + length (lines text.now) < 2 ^ 64 }
+    ensures { result ≡ surveyed 7 (following number 7 (lines text.now)) }
+{
+    let mut size = HEAD;
+    let mut line = number;
+    for next in (Lines { rest: text }) {
+        match grown(size, next) {
+            Ok(more) => size = more,
+            Err(fault) => return Err(NotComposed::Wrong { line, fault }),
+        }
+        line += 1;
+    }
+    Ok(size)
+}
+
+// The event on a line, if it says one.
+fn put_line(out: &mut [u8], to: usize, line: &[u8]) -> usize
+    requires { to + length (line_bytes (line_of line.now)) ≤ length out.old }
+    ensures { Wrote to (line_bytes (line_of line.now)) (length (line_bytes (line_of line.now))) out.old out.new result }
+{
+    match line_of(line) {
+        Ok(Line::Does(event)) => put_event(&mut *out, to, event),
+        _ => to,
+    }
 }
 
 // The events of these lines, one after another.
-pub fn put_script(out: &mut [u8], to: usize, text: &[u8], from: usize) -> usize
-    requires { (from ≤ length text.now) × (to + length (events_bytes (events_in (lines (drop from text.now)))) ≤ length out.old) }
-    ensures { Wrote to (events_bytes (events_in (lines (drop from text.now)))) (length (events_bytes (events_in (lines (drop from text.now))))) out.old out.new result }
+pub fn put_script(out: &mut [u8], to: usize, text: &[u8]) -> usize
+    requires { to + length (events_bytes (events_in (lines text.now))) ≤ length out.old }
+    ensures { Wrote to (events_bytes (events_in (lines text.now))) (length (events_bytes (events_in (lines text.now)))) out.old out.new result }
 {
     let mut place = to;
-    let mut at = from;
-    while at < text.len() {
-        let parted = part(text, at);
-        let line = parted.line;
-        let next = parted.next;
-        match line {
-            Line::Blank => {
-                at = next;
-            }
-            Line::Bench(_, _) => {
-                at = next;
-            }
-            Line::Does(event) => {
-                place = put_event(&mut *out, place, event);
-                at = next;
-            }
-            Line::Wrong(_) => {
-                at = next;
-            }
-        }
+    for next in (Lines { rest: text }) {
+        place = put_line(&mut *out, place, next);
     }
     place
 }

@@ -1,5 +1,5 @@
 -- Composing what `show` prints gives the file.
-use Rattle.std.specs.Prelude.{ℕ, suc, ◌+◌, ◌≤◌, ◌<◌, ◌≡◌, refl, Bool, true, cond, not, List, [], ◌∷◌, ◌++◌, eqb, ltb, leb, length}
+use Rattle.std.specs.Prelude.{ℕ, suc, ◌+◌, ◌≤◌, ◌<◌, ◌≡◌, refl, Bool, true, cond, not, List, [], ◌∷◌, ◌++◌, eqb, ltb, leb, length, Result, Ok, Err}
 use Rattle.std.proofs.Common.{sym, ap, ◌∙◌, append-nil, arith, length-append, le-ltb, leb-true}
 use Rattle.words.specs.Ranges.{within}
 use Rattle.words.specs.RangeLaws.{and_right}
@@ -13,10 +13,11 @@ use Rattle.writing.proofs.SizeLaws.{file-size}
 use Rattle.writing.proofs.RoundTripLaws.{opened as opened-file, written_back, laid-back}
 use Rattle.showing.specs.Shown.{word_bench, bench_line, event_line, event_lines, shown}
 use Rattle.showing.proofs.ShowLaws.{shown_read}
+use Rattle.script.specs.declared.Fault.{Fault}
 use Rattle.script.specs.declared.Fault.TheVariants.{Processes, Registers, TooLong}
 use Rattle.script.specs.declared.Line.{Line}
 use Rattle.script.specs.Lines.{lines}
-use Rattle.composing.specs.declared.Composed.TheVariants.{File, Short}
+use Rattle.composing.specs.declared.NotComposed.TheVariants.{Short}
 use Rattle.composing.specs.Script.{listed, faulty, preceded, followed, following, Script, script, wrong, as_script, opened, opening, script_of}
 use Rattle.composing.specs.Composed.{replied, left, compose_reply, compose_left}
 use Rattle.retold.specs.Plain.{fields, ComposedBack}
@@ -29,7 +30,7 @@ use Rattle.retold.specs.HeldLaws.{held_out}
 pub events-back : (i size : ℕ) (events : List Event) → HeldAll events → size + length (events_bytes events) ≤ 65536 → following i size (lines (event_lines events)) ≡ listed events
 events-back i size [] h l = refl
 events-back i size (e ∷ rest) h l =
-    ap (following i size) parted ∙ ap (λ (x : Line). followed i size x (λ more. following (suc i) more (lines (event_lines rest)))) (event-back e h.0)
+    ap (following i size) parted ∙ ap (λ (x : Result Line Fault). followed i size x (λ more. following (suc i) more (lines (event_lines rest)))) (event-back e h.0)
     ∙ ap (λ (t : Bool). cond t (faulty i TooLong) (preceded e (following (suc i) (size + length (event_bytes e)) (lines (event_lines rest))))) (le-ltb 65536 (size + length (event_bytes e)) (omega (arith, l, length-append (event_bytes e) (events_bytes rest))))
     ∙ ap (preceded e) (events-back (suc i) (size + length (event_bytes e)) rest h.1 (omega (arith, l, length-append (event_bytes e) (events_bytes rest))))
   where
@@ -45,7 +46,7 @@ pub script-back : (n m : ℕ) (events : List Event) → within n 7 ≡ true → 
     → script_of (bench_line n m ++ event_lines events) ≡ script n m events
 unfolding script_of
 script-back n m events en em h l =
-    ap (opening 1) parted ∙ ap (λ (x : Line). opened 1 x (opening 2 (lines (event_lines events))) (lines (event_lines events))) (bench-back n m (below n 7 (omega arith) en) (below m 16 (omega arith) em))
+    ap (opening 1) parted ∙ ap (λ (x : Result Line Fault). opened 1 x (opening 2 (lines (event_lines events))) (lines (event_lines events))) (bench-back n m (below n 7 (omega arith) en) (below m 16 (omega arith) em))
     ∙ ap (λ (t : Bool). cond (not t) (wrong 1 Processes) (cond (not (within m 16)) (wrong 1 Registers) (as_script n m (following 2 7 (lines (event_lines events)))))) en
     ∙ ap (λ (t : Bool). cond (not t) (wrong 1 Registers) (as_script n m (following 2 7 (lines (event_lines events))))) em
     ∙ ap (as_script n m) (events-back 2 7 events h l)
@@ -84,8 +85,8 @@ module _ (bytes : List ℕ) (held : Bytes bytes) (z : file_refusal bytes ≡ 0) 
 pub composed-back : ComposedBack
 unfolding compose_reply compose_left
 composed-back bytes held z meets out room = (
-  ap (λ (x : Script). replied x (length out)) is ∙ ap (λ (file : List ℕ). cond (ltb (length out) (length file)) Short (File (length file))) (written_back bytes held z meets)
-      ∙ ap (λ (t : Bool). cond t Short (File (length bytes))) (le-ltb (length out) (length bytes) room),
+  ap (λ (x : Script). replied x (length out)) is ∙ ap (λ (file : List ℕ). cond (ltb (length out) (length file)) (Err Short) (Ok (length file))) (written_back bytes held z meets)
+      ∙ ap (λ (t : Bool). cond t (Err Short) (Ok (length bytes))) (le-ltb (length out) (length bytes) room),
   ap (λ (x : Script). left x out) is ∙ laid-back bytes held z meets out room,
 )
   where

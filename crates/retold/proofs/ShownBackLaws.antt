@@ -1,5 +1,5 @@
 -- Showing what `compose` made gives the text without comments and spare blanks.
-use Rattle.std.specs.Prelude.{ℕ, suc, ◌+◌, ◌≤◌, ◌≡◌, Bool, true, false, cond, not, List, [], ◌∷◌, ◌++◌, eqb, ltb, leb, drop}
+use Rattle.std.specs.Prelude.{ℕ, suc, ◌+◌, ◌≤◌, ◌≡◌, Bool, true, false, cond, not, List, [], ◌∷◌, ◌++◌, eqb, ltb, leb, drop, Result, Ok, Err}
 use Rattle.std.proofs.Math.Path.{refl, ap}
 use Rattle.std.proofs.Common.{sym, subst, ◌∙◌, true≢false, append-nil, arith, length-append}
 use Rattle.std.proofs.Math.ListN.{length, take}
@@ -19,14 +19,14 @@ use Rattle.writing.specs.Writing.{write_refusal, write_left}
 use Rattle.buffer.specs.Printing.{print_reply, print_left}
 use Rattle.showing.specs.Shown.{bench_line, event_lines, reading_text, shown}
 use Rattle.showing.proofs.ShowLaws.{shown_read}
+use Rattle.script.specs.declared.Fault.{Fault}
 use Rattle.script.specs.declared.Fault.TheVariants.{Processes, Registers, TooLong}
 use Rattle.script.specs.declared.Line.{Line}
 use Rattle.script.specs.declared.Line.TheVariants.{Blank, Bench, Does}
-use Rattle.script.specs.declared.Line.TheVariants as L
 use Rattle.script.specs.Lines.{lines, words, uncommented}
 use Rattle.script.specs.Meaning.{line_of}
-use Rattle.composing.specs.declared.Composed.{Composed}
-use Rattle.composing.specs.declared.Composed.TheVariants.{File, Short, Wrong}
+use Rattle.composing.specs.declared.NotComposed.{NotComposed}
+use Rattle.composing.specs.declared.NotComposed.TheVariants.{Short}
 use Rattle.composing.specs.Composed.{replied, left, compose_reply, compose_left}
 use Rattle.composing.specs.Script.{Listed, listed, faulty, preceded, followed, following, Script, script, wrong, as_script, begun, opened, opening, script_of}
 use Rattle.retold.specs.Plain.{plain_words, plain_lines, plain, ShownBack, ShownAgain}
@@ -45,11 +45,11 @@ Lists size ls (listed events) = Retells size ls events
 Lists size ls (faulty i fault) = Unit {0}
 
 module _ (size : ℕ) (line : List ℕ) (rest : List (List ℕ)) where
-  blank-line : SaidBy (words (uncommented line)) Blank → (f : Listed) → Lists size rest f → Lists size (line ∷ rest) f
+  blank-line : SaidBy (words (uncommented line)) (Ok Blank) → (f : Listed) → Lists size rest f → Lists size (line ∷ rest) f
   blank-line none (listed events) r = record { held = r.held; short = r.short; text = r.text ∙ sym (ap (λ (l : List ℕ). l ++ plain_lines rest) none) }
   blank-line none (faulty i fault) r = tt
 
-  event-line : (e : Event) → SaidBy (words (uncommented line)) (Does e) → (f : Listed) → Lists (size + length (event_bytes e)) rest f → Lists size (line ∷ rest) (preceded e f)
+  event-line : (e : Event) → SaidBy (words (uncommented line)) (Ok (Does e)) → (f : Listed) → Lists (size + length (event_bytes e)) rest f → Lists size (line ∷ rest) (preceded e f)
   event-line e said (listed events) r =
       record {
         held = (said.0, r.held);
@@ -62,12 +62,12 @@ lists : (i size : ℕ) (ls : List (List ℕ)) → size ≤ 65536 → Lists size 
 lists i size [] l = record { held = tt; short = omega (arith, l); text = refl }
 lists i size (line ∷ rest) l = go (line_of line) (line-said line) (λ (more : ℕ) (h : more ≤ 65536). lists (suc i) more rest h)
   where
-    go : (x : Line) → SaidBy (words (uncommented line)) x → ((more : ℕ) → more ≤ 65536 → Lists more rest (following (suc i) more rest))
+    go : (x : Result Line Fault) → SaidBy (words (uncommented line)) x → ((more : ℕ) → more ≤ 65536 → Lists more rest (following (suc i) more rest))
         → Lists size (line ∷ rest) (followed i size x (λ more. following (suc i) more rest))
-    go Blank said later = blank-line size line rest said (following (suc i) size rest) (later size l)
-    go (Bench n m) said later = tt
-    go (L.Wrong fault) said later = tt
-    go (Does e) said later = by (ltb 65536 more) refl
+    go (Ok Blank) said later = blank-line size line rest said (following (suc i) size rest) (later size l)
+    go (Ok (Bench n m)) said later = tt
+    go (Err fault) said later = tt
+    go (Ok (Does e)) said later = by (ltb 65536 more) refl
       where
         more : ℕ
         more = size + length (event_bytes e)
@@ -90,12 +90,12 @@ Scripts ls (script n m events) = Retold ls n m events
 Scripts ls (wrong i fault) = Unit {0}
 
 module _ (line : List ℕ) (rest : List (List ℕ)) where
-  blank-first : SaidBy (words (uncommented line)) Blank → (x : Script) → Scripts rest x → Scripts (line ∷ rest) x
+  blank-first : SaidBy (words (uncommented line)) (Ok Blank) → (x : Script) → Scripts rest x → Scripts (line ∷ rest) x
   blank-first none (script n m events) r =
       record { processes = r.processes; registers = r.registers; held = r.held; short = r.short; text = r.text ∙ sym (ap (λ (l : List ℕ). l ++ plain_lines rest) none) }
   blank-first none (wrong i fault) r = tt
 
-  bench-first : (i n m : ℕ) → SaidBy (words (uncommented line)) (Bench n m) → (f : Listed) → Lists 7 rest f → Scripts (line ∷ rest) (begun i n m f)
+  bench-first : (i n m : ℕ) → SaidBy (words (uncommented line)) (Ok (Bench n m)) → (f : Listed) → Lists 7 rest f → Scripts (line ∷ rest) (begun i n m f)
   bench-first i n m said f r = by (within n 7) refl (within m 16) refl f r
     where
       by : (t : Bool) → within n 7 ≡ t → (u : Bool) → within m 16 ≡ u → (g : Listed) → Lists 7 rest g
@@ -116,11 +116,11 @@ scripts : (i : ℕ) (ls : List (List ℕ)) → Scripts ls (opening i ls)
 scripts i [] = tt
 scripts i (line ∷ rest) = go (line_of line) (line-said line) (scripts (suc i) rest)
   where
-    go : (x : Line) → SaidBy (words (uncommented line)) x → Scripts rest (opening (suc i) rest) → Scripts (line ∷ rest) (opened i x (opening (suc i) rest) rest)
-    go Blank said later = blank-first line rest said (opening (suc i) rest) later
-    go (Bench n m) said later = bench-first line rest i n m said (following (suc i) 7 rest) (lists (suc i) 7 rest (omega arith))
-    go (Does e) said later = tt
-    go (L.Wrong fault) said later = tt
+    go : (x : Result Line Fault) → SaidBy (words (uncommented line)) x → Scripts rest (opening (suc i) rest) → Scripts (line ∷ rest) (opened i x (opening (suc i) rest) rest)
+    go (Ok Blank) said later = blank-first line rest said (opening (suc i) rest) later
+    go (Ok (Bench n m)) said later = bench-first line rest i n m said (following (suc i) 7 rest) (lists (suc i) 7 rest (omega arith))
+    go (Ok (Does e)) said later = tt
+    go (Err fault) said later = tt
 
 -- ---- of its file
 
@@ -147,15 +147,13 @@ shown-back text n m events is = shown-lines (lines text) n m events (subst (Scri
 
 -- ---- what the functions reply and leave
 
-abbrev is_file : Composed → Bool
-is_file (File size) = true
-is_file (Wrong line fault) = false
-is_file Short = false
+abbrev is_file : Result ℕ NotComposed → Bool
+is_file (Ok size) = true
+is_file (Err why) = false
 
-abbrev size_of : Composed → ℕ
-size_of (File size) = size
-size_of (Wrong line fault) = 0
-size_of Short = 0
+abbrev size_of : Result ℕ NotComposed → ℕ
+size_of (Ok size) = size
+size_of (Err why) = 0
 
 module _ (text out : List ℕ) (size : ℕ) where
   -- the file stands at the front
@@ -166,17 +164,17 @@ module _ (text out : List ℕ) (size : ℕ) where
       ap (λ (number : ℕ). take size (cond (eqb number 0) (laid_at 0 (file_bytes n m events) out) out)) (accepted (lines text) n m events r (length out) room)
       ∙ ap (λ (k : ℕ). take k (laid_at 0 (file_bytes n m events) out)) (sym sized) ∙ take-append_seam (file_bytes n m events) (drop (0 + length (file_bytes n m events)) out)
 
-  by-script : (x : Script) → Scripts (lines text) x → replied x (length out) ≡ File size → shown (take size (left x out)) ≡ plain_lines (lines text)
+  by-script : (x : Script) → Scripts (lines text) x → replied x (length out) ≡ Ok size → shown (take size (left x out)) ≡ plain_lines (lines text)
   by-script (wrong line fault) r e = absurd (true≢false (sym (ap is_file e)))
   by-script (script n m events) r e = go (ltb (length out) (length (file_bytes n m events))) refl e
     where
-      go : (t : Bool) → ltb (length out) (length (file_bytes n m events)) ≡ t → cond t Short (File (length (file_bytes n m events))) ≡ File size
+      go : (t : Bool) → ltb (length out) (length (file_bytes n m events)) ≡ t → cond t (Err Short) (Ok (length (file_bytes n m events))) ≡ Ok size
           → shown (take size (write_left n m events out)) ≡ plain_lines (lines text)
       go true f g = absurd (true≢false (sym (ap is_file g)))
       go false f g =
           ap shown (front n m events r (ltb-false (length out) (length (file_bytes n m events)) f) (ap size_of g)) ∙ shown-lines (lines text) n m events r
 
-  pub composed-shown : compose_reply text (length out) ≡ File size → shown (take size (compose_left text out)) ≡ plain text
+  pub composed-shown : compose_reply text (length out) ≡ Ok size → shown (take size (compose_left text out)) ≡ plain text
   unfolding compose_reply compose_left script_of plain
   composed-shown e = by-script (script_of text) (scripts 1 (lines text)) e
 

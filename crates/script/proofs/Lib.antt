@@ -1,2 +1,3 @@
+pub mod HeadLaws
 pub mod LineLaws
-pub mod MeaningLaws
+pub mod NumberLaws

@@ -1,9 +1,12 @@
 -- Lines and words from the front: the first, and then those of what is behind it.
-use Rattle.std.specs.Prelude.{ℕ, suc, ◌+◌, ◌-◌, ◌≤◌, ◌≡◌, refl, Bool, true, false, cond, not, List, [], ◌∷◌, eqb, length, take, drop}
-use Rattle.std.proofs.Common.{sym, ap, ◌∙◌, arith, length-drop, drop-drop, eqb-true}
-use Rattle.std.proofs.lemmas.Bool.{eqb-false}
+use Rattle.std.specs.Prelude.{ℕ, suc, ◌+◌, ◌-◌, ◌≤◌, ◌<◌, ◌≡◌, refl, Bool, true, false, cond, not, List, [], ◌∷◌, eqb, ltb, length, take, drop, Some, None}
+use Rattle.std.specs.List.{position, position_or_len}
+use Rattle.std.specs.Option.{unwrap_or}
+use Rattle.std.proofs.Common.{sym, ap, ◌∙◌, arith, length-drop}
+use Rattle.std.proofs.lemmas.Bool.{ltb-false}
+use Rattle.std.proofs.lemmas.Grind.{common_steps}
+use Rattle.std.proofs.lemmas.List.Recursion.{is_position_or_len}
 use Rattle.script.specs.Lines.{before, behind, longer, newline, lines, is_blank, goes_on, words, word, past_word, past_blanks}
-use Rattle.script.specs.Places.{Spans}
 
 -- ---- lines
 
@@ -100,7 +103,56 @@ drop-word (b ∷ rest) = go (is_blank b) (drop-word rest)
     go true later = refl
     go false later = later
 
-pub word-within : (line : List ℕ) → length (word line) ≤ length line
+some-from : (line : List ℕ) → 0 < length line → words_from line ≡ word line ∷ words (past_word line)
+some-from [] some = absurd (omega (arith, some))
+some-from (b ∷ rest) some = refl
+
+-- ---- the places where the code cuts
+
+pub before-length : (byte : ℕ) (text : List ℕ) → length (before byte text) ≡ position_or_len (λ b. eqb b byte) text
+before-length byte = is_position_or_len (λ text. length (before byte text)) (λ b. eqb b byte) refl (λ b rest. go b rest (eqb b byte))
+  where
+    go : (b : ℕ) (rest : List ℕ) (t : Bool) → length (cond t [] (b ∷ before byte rest)) ≡ cond t 0 (1 + length (before byte rest))
+    go b rest true = refl
+    go b rest false = omega arith
+
+pub word-length : (line : List ℕ) → length (word line) ≡ position_or_len is_blank line
+word-length = is_position_or_len (λ line. length (word line)) is_blank refl (λ b rest. go b rest (is_blank b))
+  where
+    go : (b : ℕ) (rest : List ℕ) (t : Bool) → length (cond t [] (b ∷ word rest)) ≡ cond t 0 (1 + length (word rest))
+    go b rest true = refl
+    go b rest false = omega arith
+
+pub drop-blanks : (line : List ℕ) → drop (position_or_len (λ b. not (is_blank b)) line) line ≡ past_blanks line
+drop-blanks [] = refl
+drop-blanks (b ∷ rest) = go (is_blank b) (drop-blanks rest)
+  where
+    go : (t : Bool) → drop (position_or_len (λ b. not (is_blank b)) rest) rest ≡ past_blanks rest
+        → drop (cond (not (not t)) (1 + position_or_len (λ b. not (is_blank b)) rest) 0) (b ∷ rest) ≡ cond t (past_blanks rest) (b ∷ rest)
+    go true later = ap (λ n. drop n (b ∷ rest)) (let e : 1 + position_or_len (λ b. not (is_blank b)) rest ≡ suc (position_or_len (λ b. not (is_blank b)) rest) = omega arith in e) ∙ later
+    go false later = refl
+
+take-all : (text : List ℕ) (n : ℕ) → length text ≤ n → take n text ≡ text
+take-all text n l = search (arith, common_steps)
+
+pub at-end : (text : List ℕ) (n : ℕ) → length text ≤ n → drop n text ≡ []
+at-end text n l = search (arith, common_steps)
+
+found-is : (n most i : ℕ) → cond (ltb n most) (Some n) None ≡ Some i → n ≡ i
+found-is n most i = go (ltb n most)
+  where
+    go : (t : Bool) → cond t (Some n) None ≡ Some i → n ≡ i
+    go true e = cc
+    go false e = cc
+
+none-is : (n most : ℕ) → cond (ltb n most) (Some n) None ≡ None → most ≤ n
+none-is n most e = go (ltb n most) refl e
+  where
+    go : (t : Bool) → ltb n most ≡ t → cond t (Some n) None ≡ None → most ≤ n
+    go true f q = cc
+    go false f q = ltb-false n most f
+
+word-within : (line : List ℕ) → length (word line) ≤ length line
 word-within [] = omega arith
 word-within (b ∷ rest) = go (is_blank b) (word-within rest)
   where
@@ -108,50 +160,62 @@ word-within (b ∷ rest) = go (is_blank b) (word-within rest)
     go true later = omega arith
     go false later = omega (arith, later)
 
--- behind blanks stands nothing, or a word
-pub some_word : (line : List ℕ) → length (word (past_blanks line)) ≡ 0 → past_blanks line ≡ []
-some_word [] e = refl
-some_word (b ∷ rest) e = go (is_blank b) refl e (some_word rest)
+or-all : (n most : ℕ) → n ≤ most → unwrap_or (cond (ltb n most) (Some n) None) most ≡ n
+or-all n most l = go (ltb n most) refl
   where
-    go : (t : Bool) → is_blank b ≡ t → length (word (cond t (past_blanks rest) (b ∷ rest))) ≡ 0 → (length (word (past_blanks rest)) ≡ 0 → past_blanks rest ≡ []) → cond t (past_blanks rest) (b ∷ rest) ≡ []
-    go true f z later = later z
-    go false f z later = absurd (no (ap (λ (t : Bool). length (cond t [] (b ∷ word rest))) (sym f) ∙ z))
-      where
-        no : suc (length (word rest)) ≡ 0 → ⊥
-        no q = omega (arith, q)
+    go : (t : Bool) → ltb n most ≡ t → unwrap_or (cond t (Some n) None) most ≡ n
+    go true e = refl
+    go false e = omega (arith, l, ltb-false n most e)
+
+-- a text cut where the byte was found, and where it was not
+module _ (byte : ℕ) (text : List ℕ) where
+  module _ (i : ℕ) (found : position (λ b. eqb b byte) text ≡ Some i) where
+    place : length (before byte text) ≡ i
+    place = before-length byte text ∙ found-is (position_or_len (λ b. eqb b byte) text) (length text) i found
+
+    pub cut-front : take i text ≡ before byte text
+    cut-front = ap (λ n. take n text) (sym place) ∙ take-before byte text
+
+    pub cut-back : take (length text - (i + 1)) (drop (i + 1) text) ≡ behind byte text
+    cut-back = take-all (drop (i + 1) text) (length text - (i + 1)) (omega (arith, length-drop (i + 1) text)) ∙ ap (λ n. drop n text) (let e : i + 1 ≡ suc (length (before byte text)) = omega (arith, place) in e) ∙ drop-behind byte text
+
+  module _ (none : position (λ b. eqb b byte) text ≡ None) where
+    all-of-it : length text ≤ length (before byte text)
+    all-of-it = omega (arith, before-length byte text, none-is (position_or_len (λ b. eqb b byte) text) (length text) none)
+
+    pub whole-front : text ≡ before byte text
+    whole-front = sym (take-all text (length (before byte text)) all-of-it) ∙ take-before byte text
+
+    pub whole-back : [] ≡ behind byte text
+    whole-back = sym (at-end text (suc (length (before byte text))) (omega (arith, all-of-it))) ∙ drop-behind byte text
 
 -- ---- the next word of a line
 
-some-from : (line : List ℕ) → (length (word line) ≡ 0 → ⊥) → words_from line ≡ word line ∷ words (past_word line)
-some-from [] some = absurd (some refl)
-some-from (b ∷ rest) some = refl
+module _ (line : List ℕ) where
+  pub no_words : position (λ b. not (is_blank b)) line ≡ None → words line ≡ []
+  no_words none =
+      words-front line
+      ∙ ap words_from (sym (drop-blanks line) ∙ at-end line (position_or_len (λ b. not (is_blank b)) line) (none-is (position_or_len (λ b. not (is_blank b)) line) (length line) none))
 
-pub spans : (line : List ℕ) (from start end : ℕ) → start ≤ length line → drop start line ≡ past_blanks (drop from line) → end ≡ start + length (word (drop start line))
-    → Spans line from (record { start = start; end = end })
-spans line from start end l past e =
-    record { ordered = omega (arith, e); inside = omega (arith, e, l, word-within (drop start line), length-drop start line); is = first ∙ go (eqb start end) refl }
-  where
-    rest : List ℕ
-    rest = drop start line
+  -- a word starts behind the blanks
+  pub next-word : (start end : ℕ) → position (λ b. not (is_blank b)) line ≡ Some start → start < length line → end ≡ unwrap_or (position is_blank (drop start line)) (length (drop start line))
+      → words line ≡ take end (drop start line) ∷ words (drop end (drop start line))
+  next-word start end found l e =
+      words-front line ∙ ap words_from (sym rest-is) ∙ some-from rest (omega (arith, length-drop start line, l))
+      ∙ ap (λ w. w ∷ words (past_word rest)) (sym (ap (λ n. take n rest) long ∙ take-word rest))
+      ∙ ap (λ r. take end rest ∷ words r) (sym (ap (λ n. drop n rest) long ∙ drop-word rest))
+    where
+      rest : List ℕ
+      rest = drop start line
 
-    first : words (drop from line) ≡ words_from rest
-    first = words-front (drop from line) ∙ ap words_from (sym past)
+      rest-is : rest ≡ past_blanks line
+      rest-is = ap (λ n. drop n line) (sym (found-is (position_or_len (λ b. not (is_blank b)) line) (length line) start found)) ∙ drop-blanks line
 
-    long : end - start ≡ length (word rest)
-    long = omega (arith, e)
+      long : end ≡ length (word rest)
+      long = e ∙ or-all (position_or_len is_blank rest) (length rest) (omega (arith, word-length rest, word-within rest)) ∙ sym (word-length rest)
 
-    word-is : take (end - start) rest ≡ word rest
-    word-is = ap (λ (n : ℕ). take n rest) long ∙ take-word rest
-
-    others : drop end line ≡ past_word rest
-    others = ap (λ (n : ℕ). drop n line) e ∙ sym (drop-drop (length (word rest)) start line) ∙ drop-word rest
-
-    go : (t : Bool) → eqb start end ≡ t → words_from rest ≡ cond t [] (take (end - start) rest ∷ words (drop end line))
-    go true f = ap words_from (past ∙ some_word (drop from line) (sym (ap (λ (r : List ℕ). length (word r)) past) ∙ zero-long))
-      where
-        zero-long : length (word rest) ≡ 0
-        zero-long = omega (arith, e, eqb-true start end f)
-    go false f = some-from rest none ∙ ap (λ (w : List ℕ). w ∷ words (past_word rest)) (sym word-is) ∙ ap (λ (r : List ℕ). take (end - start) rest ∷ words r) (sym others)
-      where
-        none : length (word rest) ≡ 0 → ⊥
-        none z = eqb-false start end f (omega (arith, e, z))
+  pub word_inside : (start end : ℕ) → end ≡ unwrap_or (position is_blank (drop start line)) (length (drop start line)) → end ≤ length (drop start line)
+  word_inside start end e = omega (arith, e ∙ or-all (position_or_len is_blank (drop start line)) (length (drop start line)) within, within)
+    where
+      within : position_or_len is_blank (drop start line) ≤ length (drop start line)
+      within = omega (arith, word-length (drop start line), word-within (drop start line))

@@ -1,9 +1,7 @@
 -- A word as a number: digits, with no zero in front of others. A value may have a minus sign in front, and is then not 0. So each number is written in one way only.
-use Rattle.std.specs.Prelude.{ℕ, ◌+◌, ◌-◌, ◌*◌, Bool, true, false, cond, not, ◌&&◌, ◌||◌, List, [], ◌∷◌, eqb, leb, pos, negsuc}
-use Rattle.script.specs.declared.Figure.{Figure}
-use Rattle.script.specs.declared.Figure.TheVariants.{Is, NotANumber, TooLarge}
-use Rattle.script.specs.declared.Amount.{Amount}
-use Rattle.script.specs.declared.Amount.TheVariants as A
+use Rattle.std.specs.Prelude.{ℕ, ◌+◌, ◌-◌, ◌*◌, Bool, true, false, cond, not, ◌&&◌, ◌||◌, List, [], ◌∷◌, eqb, leb, ℤ, pos, negsuc, Result, Ok, Err}
+use Rattle.script.specs.declared.Fault.{Fault}
+use Rattle.script.specs.declared.Fault.TheVariants.{NotANumber, TooLarge}
 
 abbrev pub is_digit : ℕ → Bool
 is_digit b = leb 48 b && leb b 57
@@ -25,23 +23,19 @@ abbrev pub value : ℕ → List ℕ → ℕ
 value n [] = n
 value n (b ∷ rest) = value (10 * n + (b - 48)) rest
 
--- what is past every field is counted as one number
-abbrev pub capped : ℕ → ℕ
-capped n = cond (leb n 9223372036854775808) n 9223372036854775809
-
 -- a number of at most so much
-unfoldable pub figure_of : ℕ → List ℕ → Figure
-figure_of most w = cond (is_number w) (cond (leb (value 0 w) most) (Is (value 0 w)) TooLarge) NotANumber
+unfoldable pub figure_of : ℕ → List ℕ → Result ℕ Fault
+figure_of most w = cond (is_number w) (cond (leb (value 0 w) most) (Ok (value 0 w)) (Err TooLarge)) (Err NotANumber)
 
 -- a value of 64 bits
-abbrev pub positive_of : List ℕ → Amount
-positive_of w = cond (is_number w) (cond (leb (value 0 w) 9223372036854775807) (A.Is (pos (value 0 w))) A.TooLarge) A.NotANumber
+abbrev pub positive_of : List ℕ → Result ℤ Fault
+positive_of w = cond (is_number w) (cond (leb (value 0 w) 9223372036854775807) (Ok (pos (value 0 w))) (Err TooLarge)) (Err NotANumber)
 
-abbrev pub negative_of : List ℕ → Amount
+abbrev pub negative_of : List ℕ → Result ℤ Fault
 negative_of w =
-    cond (is_number w && not (eqb (value 0 w) 0)) (cond (leb (value 0 w) 9223372036854775808) (A.Is (negsuc (value 0 w - 1))) A.TooLarge)
-    A.NotANumber
+    cond (is_number w && not (eqb (value 0 w) 0)) (cond (leb (value 0 w) 9223372036854775808) (Ok (negsuc (value 0 w - 1))) (Err TooLarge))
+    (Err NotANumber)
 
-unfoldable pub amount_of : List ℕ → Amount
-amount_of [] = A.NotANumber
+unfoldable pub amount_of : List ℕ → Result ℤ Fault
+amount_of [] = Err NotANumber
 amount_of (b ∷ rest) = cond (eqb b 45) (negative_of rest) (positive_of (b ∷ rest))

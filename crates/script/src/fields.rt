@@ -1,88 +1,49 @@
 // The words behind the first, taken one after another.
-ghost use Rattle.std.specs.Prelude.{◌≡◌, ◌≤◌, length, drop};
+ghost use Rattle.std.specs.Prelude.{◌≤◌, IfOk};
 ghost use Rattle.script.specs.Lines.{words};
-ghost use Rattle.script.specs.Meaning.{end_then};
-ghost use Rattle.script.specs.Places.{Took, TookTwo, TookValue};
+ghost use Rattle.script.specs.Meaning.{number_then, two_then, value_then};
+ghost use Rattle.script.specs.Places.{Took};
 
-use crate::marks::next_word;
+use crate::Fault;
+use crate::marks::Words;
 use crate::numbers::{amount, figure};
-use crate::{Amount, Fault, Figure, Line, Pairing, Taken, Valued};
 
-// The greatest number of one byte.
-pub const BYTE: u64 = 255;
+// The greatest number of one byte, and of four.
+const BYTE: u64 = u8::MAX as u64;
 
-// The greatest number of four bytes.
-pub const WORD: u64 = 4294967295;
+const WORD: u64 = u32::MAX as u64;
 
-pub fn take_number(line: &[u8], from: usize, most: u64) -> Taken
-    requires { (from ≤ length line.now) × (most ≤ 9223372036854775808) }
-    ensures { Took most line.now from result }
-{
-    let span = next_word(line, from);
-    let start = span.start;
-    let end = span.end;
-    if start == end {
-        return Taken::Wrong(Fault::Missing);
+impl<'a> Words<'a> {
+    fn number(&mut self, most: u64) -> Result<u64, Fault>
+        ensures took { Took (number_then most (words self.old.rest.now)) (words self.new.rest.now) result }
+        ensures within { IfOk result (λ n. n ≤ most) }
+    {
+        let word = self.next().ok_or(Fault::Missing)?;
+        figure(word, most)
     }
-    let found = figure(&line[start..end], most);
-    match found {
-        Figure::Is(n) => Taken::Number(n, end),
-        Figure::NotANumber => Taken::Wrong(Fault::NotANumber),
-        Figure::TooLarge => Taken::Wrong(Fault::TooLarge),
-    }
-}
 
-// The second of two numbers.
-fn take_second(line: &[u8], from: usize, second: usize, p: u8) -> Pairing
-    requires { Took 255 line.now from (Taken.Number p second) }
-    ensures { TookTwo line.now from result }
-{
-    let taken = take_number(line, second, BYTE);
-    match taken {
-        Taken::Number(x, next) => Pairing::Numbers(p, x as u8, next),
-        Taken::Wrong(fault) => Pairing::Wrong(fault),
+    pub fn byte(&mut self) -> Result<u8, Fault>
+        ensures { Took (number_then 255 (words self.old.rest.now)) (words self.new.rest.now) result }
+    {
+        Ok(self.number(BYTE)? as u8)
     }
-}
 
-pub fn take_two(line: &[u8], from: usize) -> Pairing
-    requires { from ≤ length line.now }
-    ensures { TookTwo line.now from result }
-{
-    let taken = take_number(line, from, BYTE);
-    match taken {
-        Taken::Number(p, second) => take_second(line, from, second, p as u8),
-        Taken::Wrong(fault) => Pairing::Wrong(fault),
+    pub fn two_bytes(&mut self) -> Result<(u8, u8), Fault>
+        ensures { Took (λ go. two_then (words self.old.rest.now) (λ p x. go (p, x))) (words self.new.rest.now) result }
+    {
+        Ok((self.byte()?, self.byte()?))
     }
-}
 
-pub fn take_value(line: &[u8], from: usize) -> Valued
-    requires { from ≤ length line.now }
-    ensures { TookValue line.now from result }
-{
-    let span = next_word(line, from);
-    let start = span.start;
-    let end = span.end;
-    if start == end {
-        return Valued::Wrong(Fault::Missing);
+    pub fn word(&mut self) -> Result<u32, Fault>
+        ensures { Took (number_then 4294967295 (words self.old.rest.now)) (words self.new.rest.now) result }
+    {
+        Ok(self.number(WORD)? as u32)
     }
-    let found = amount(&line[start..end]);
-    match found {
-        Amount::Is(v) => Valued::Value(v, end),
-        Amount::NotANumber => Valued::Wrong(Fault::NotANumber),
-        Amount::TooLarge => Valued::Wrong(Fault::TooLarge),
-    }
-}
 
-// Nothing more may follow.
-pub fn ended(line: &[u8], from: usize, says: Line) -> Line
-    requires { from ≤ length line.now }
-    ensures { result ≡ end_then (words (drop from line.now)) says }
-{
-    let span = next_word(line, from);
-    let start = span.start;
-    let end = span.end;
-    if start == end {
-        return says;
+    pub fn value(&mut self) -> Result<i64, Fault>
+        ensures { Took (value_then (words self.old.rest.now)) (words self.new.rest.now) result }
+    {
+        let word = self.next().ok_or(Fault::Missing)?;
+        amount(word)
     }
-    Line::Wrong(Fault::TooMany)
 }

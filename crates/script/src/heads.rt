@@ -1,45 +1,26 @@
 // The first word of a line.
 ghost use Rattle.std.specs.Prelude.{◌≡◌};
-ghost use Rattle.script.specs.Meaning.{same, head_of};
+ghost use Rattle.script.specs.Meaning.{head_of};
 
-use crate::Head;
+use crate::{Fault, Head};
 
-fn is_same(word: &[u8], other: &[u8]) -> bool
-    ensures { result ≡ same word.now other.now }
-{
-    if word.len() != other.len() {
-        return false;
-    }
-    let mut i = 0;
-    while i < word.len() {
-        if word[i] != other[i] {
-            return false;
-        }
-        i += 1;
-    }
-    true
-}
-
-pub fn head_of(word: &[u8]) -> Head
+#[tactic(auto, using(crate::proofs::HeadLaws::same_is), unfolding(crate::specs::Meaning::head_of))]
+pub fn head_of(word: &[u8]) -> Result<Head, Fault>
     ensures { result ≡ head_of word.now }
 {
-    if is_same(word, b"bench") {
-        return Head::Bench;
+    if word == b"bench".as_slice() {
+        Ok(Head::Bench)
+    } else if word == b"read".as_slice() {
+        Ok(Head::Read)
+    } else if word == b"write".as_slice() {
+        Ok(Head::Write)
+    } else if word == b"deliver".as_slice() {
+        Ok(Head::Deliver)
+    } else if word == b"crash".as_slice() {
+        Ok(Head::Crash)
+    } else if word == b"lose".as_slice() {
+        Ok(Head::Lose)
+    } else {
+        Err(Fault::Unknown)
     }
-    if is_same(word, b"read") {
-        return Head::Read;
-    }
-    if is_same(word, b"write") {
-        return Head::Write;
-    }
-    if is_same(word, b"deliver") {
-        return Head::Deliver;
-    }
-    if is_same(word, b"crash") {
-        return Head::Crash;
-    }
-    if is_same(word, b"lose") {
-        return Head::Lose;
-    }
-    Head::Unknown
 }

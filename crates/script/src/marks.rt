@@ -1,75 +1,88 @@
-// Where a byte, a blank or a word stands.
-ghost use Rattle.std.specs.Prelude.{◌≡◌, ◌||◌, ◌+◌, ◌≤◌, eqb, length, drop};
-ghost use Rattle.script.specs.Lines.{is_blank, before, word, past_blanks};
-ghost use Rattle.script.specs.Places.{Spans};
+// A text as lines, and a line as words.
+ghost use Rattle.std.specs.Prelude.{◌≡◌, ◌==◌, not};
+ghost use Rattle.std.specs.Iterator.{YieldsFirstRef, item_count};
+ghost use Rattle.std.specs.List.{position};
+ghost use Rattle.script.specs.Lines.{before, behind, is_blank, lines, words};
 
-use crate::Span;
+// Where a byte stands first.
+fn place_of(text: &[u8], byte: u8) -> Option<usize>
+    ensures { result ≡ position (λ b. b == byte) text.now }
+{
+    text.iter().position(|b| *b == byte)
+}
 
-// Blanks are spaces and tabs.
-const SPACE: u8 = 32;
+// What stands before the first such byte, all of it where there is none, and what stands behind it.
+pub fn cut(text: &[u8], byte: u8) -> (&[u8], &[u8])
+    ensures front { result.0.now ≡ before byte text.now }
+    ensures back { result.1.now ≡ behind byte text.now }
+{
+    match place_of(text, byte) {
+        Some(at) => (&text[..at], &text[at + 1..]),
+        None => (text, &[]),
+    }
+}
 
-const TAB: u8 = 9;
+// The lines of a text that are left.
+#[derive(Drop)]
+pub struct Lines<'a> {
+    pub rest: &'a [u8],
+}
+
+impl<'a> Iterator for Lines<'a> {
+    type Item = &'a [u8];
+
+    ghost next_gives = { YieldsFirstRef (λ s. lines s.rest.now) };
+
+    ghost remaining = { item_count (λ s. lines s.rest.now) };
+
+    fn next(&mut self) -> Option<&'a [u8]> {
+        if self.rest.is_empty() {
+            return None;
+        }
+        let (line, rest) = cut(self.rest, b'\n');
+        self.rest = rest;
+        Some(line)
+    }
+}
 
 fn is_blank(byte: u8) -> bool
     ensures { result ≡ is_blank byte }
 {
-    (byte == SPACE) | (byte == TAB)
+    matches!(byte, b' ' | b'\t')
 }
 
-// The first place from one on with this byte, or the end.
-pub fn find(text: &[u8], from: usize, byte: u8) -> usize
-    requires { from ≤ length text.now }
-    ensures { result ≡ from + length (before byte (drop from text.now)) }
+// Where the first word of a line starts, and where its first blank stands.
+fn word_of(line: &[u8]) -> Option<usize>
+    ensures { result ≡ position (λ b. not (is_blank b)) line.now }
 {
-    let mut i = from;
-    while i < text.len() {
-        if text[i] == byte {
-            return i;
-        }
-        i += 1;
-    }
-    i
+    line.iter().position(|b| !is_blank(*b))
 }
 
-// The first place from one on that is no blank, or the end.
-fn skip_blanks(text: &[u8], from: usize) -> usize
-    requires { from ≤ length text.now }
-    ensures { (result ≤ length text.now) × (drop result text.now ≡ past_blanks (drop from text.now)) }
+fn blank_of(line: &[u8]) -> Option<usize>
+    ensures { result ≡ position is_blank line.now }
 {
-    let mut i = from;
-    while i < text.len() {
-        if !is_blank(text[i]) {
-            return i;
-        }
-        i += 1;
-    }
-    i
+    line.iter().position(|b| is_blank(*b))
 }
 
-// The place behind a word that starts at a place.
-fn word_end(text: &[u8], from: usize) -> usize
-    requires { from ≤ length text.now }
-    ensures { result ≡ from + length (word (drop from text.now)) }
-{
-    let mut i = from;
-    while i < text.len() {
-        if is_blank(text[i]) {
-            return i;
-        }
-        i += 1;
-    }
-    i
+// The words of a line that are left.
+#[derive(Drop)]
+pub struct Words<'a> {
+    pub rest: &'a [u8],
 }
 
-// The next word.
-pub fn next_word(text: &[u8], from: usize) -> Span
-    requires { from ≤ length text.now }
-    ensures { Spans text.now from result }
-{
-    let start = skip_blanks(text, from);
-    let end = word_end(text, start);
-    Span {
-        start: start,
-        end: end,
+impl<'a> Iterator for Words<'a> {
+    type Item = &'a [u8];
+
+    ghost next_gives = { YieldsFirstRef (λ s. words s.rest.now) };
+
+    ghost remaining = { item_count (λ s. words s.rest.now) };
+
+    fn next(&mut self) -> Option<&'a [u8]> {
+        let start = word_of(self.rest)?;
+        let (_, line) = self.rest.split_at(start);
+        let end = blank_of(line).unwrap_or(line.len());
+        let (word, rest) = line.split_at(end);
+        self.rest = rest;
+        Some(word)
     }
 }

@@ -1,132 +1,70 @@
 // A word as a number: digits, with no zero in front of others. A value may have a sign in front.
-ghost use Rattle.std.specs.Prelude.{◌≡◌, true, ◌&&◌, ◌+◌, ◌-◌, ◌*◌, ◌≤◌, leb, drop};
-ghost use Rattle.script.specs.Numbers.{is_digit, digits_only, is_number, value, capped, figure_of, positive_of, negative_of, amount_of};
+ghost use Rattle.std.specs.Prelude.{◌≡◌, ◌^◌, ◌<◌, ◌≤◌, SomeIff, IfOk};
+ghost use Rattle.std.specs.Char.{is_ascii_digit};
+ghost use Rattle.std.specs.List.{list_all};
+ghost use Rattle.script.specs.Numbers.{is_number, value, figure_of, amount_of};
 
-use crate::{Amount, Figure};
-
-const ZERO: u8 = 48;
-
-const NINE: u8 = 57;
-
-const MINUS: u8 = 45;
-
-// Ten times more than this is past every field; what is past them all is counted as one number.
-const TENTH: u64 = 922337203685477580;
-
-const PAST_ALL: u64 = 9223372036854775809;
+use crate::Fault;
 
 // The greatest value, and how far below 0 the smallest one is.
 const MOST: u64 = 9223372036854775807;
 
 const LEAST: u64 = 9223372036854775808;
 
-fn is_digit(byte: u8) -> bool
-    ensures { result ≡ is_digit byte }
+fn are_digits(word: &[u8]) -> bool
+    ensures { result ≡ list_all is_ascii_digit word.now }
 {
-    (ZERO <= byte) & (byte <= NINE)
+    word.iter().all(|b| b.is_ascii_digit())
 }
 
-fn are_digits(word: &[u8], from: usize) -> bool
-    ensures { result ≡ digits_only (drop from word.now) }
+fn is_number(word: &[u8]) -> bool
+    ensures { result ≡ is_number word.now }
 {
-    let mut i = from;
-    while i < word.len() {
-        if !is_digit(word[i]) {
-            return false;
-        }
-        i += 1;
-    }
-    true
-}
-
-fn is_number(word: &[u8], from: usize) -> bool
-    ensures { result ≡ is_number (drop from word.now) }
-{
-    if word.len() <= from {
+    let Some((first, others)) = word.split_first() else {
         return false;
-    }
-    let alone = word.len() - from == 1;
-    let leads = word[from] != ZERO;
-    are_digits(word, from) & (alone | leads)
+    };
+    let alone = others.is_empty();
+    let leads = *first != b'0';
+    are_digits(word) & (alone | leads)
 }
 
-// One digit more.
-fn grown(n: u64, digit: u8) -> u64
-    requires { (n ≤ 9223372036854775809) × (is_digit digit ≡ true) }
-    ensures { result ≡ capped (10 * n + (digit - 48)) }
+// The number that digits make; none where it is past 64 bits.
+fn value_of(digits: &[u8]) -> Option<u64>
+    ensures { SomeIff result (value 0 digits.now < 2 ^ 64) (value 0 digits.now) }
 {
-    if TENTH < n {
-        return PAST_ALL;
+    let mut n: u64 = 0;
+    for digit in digits {
+        n = n
+            .checked_mul(10)?
+            .checked_add(u64::from(digit.saturating_sub(b'0')))?;
     }
-    n * 10 + (digit - ZERO) as u64
-}
-
-fn value_of(word: &[u8], from: usize) -> u64
-    requires { digits_only (drop from word.now) ≡ true }
-    ensures { result ≡ capped (value 0 (drop from word.now)) }
-{
-    let mut n = 0;
-    let mut i = from;
-    while i < word.len() {
-        n = grown(n, word[i]);
-        i += 1;
-    }
-    n
+    Some(n)
 }
 
 // A number of at most so much.
-pub fn figure(word: &[u8], most: u64) -> Figure
-    requires { most ≤ 9223372036854775808 }
-    ensures { result ≡ figure_of most word.now }
+#[tactic(auto, unfolding(crate::specs::Numbers::figure_of))]
+pub fn figure(word: &[u8], most: u64) -> Result<u64, Fault>
+    ensures value { result ≡ figure_of most word.now }
+    ensures within { IfOk result (λ n. n ≤ most) }
 {
-    if !is_number(word, 0) {
-        return Figure::NotANumber;
+    if !is_number(word) {
+        return Err(Fault::NotANumber);
     }
-    let n = value_of(word, 0);
-    if most < n {
-        return Figure::TooLarge;
+    match value_of(word) {
+        Some(n) if n <= most => Ok(n),
+        _ => Err(Fault::TooLarge),
     }
-    Figure::Is(n)
 }
 
-fn positive(word: &[u8]) -> Amount
-    ensures { result ≡ positive_of word.now }
-{
-    if !is_number(word, 0) {
-        return Amount::NotANumber;
-    }
-    let n = value_of(word, 0);
-    if MOST < n {
-        return Amount::TooLarge;
-    }
-    Amount::Is(n as i64)
-}
-
-// What stands behind a minus sign.
-fn negative(word: &[u8], from: usize) -> Amount
-    ensures { result ≡ negative_of (drop from word.now) }
-{
-    if !is_number(word, from) {
-        return Amount::NotANumber;
-    }
-    let n = value_of(word, from);
-    if n == 0 {
-        return Amount::NotANumber;
-    }
-    if LEAST < n {
-        return Amount::TooLarge;
-    }
-    Amount::Is(-1 - ((n - 1) as i64))
-}
-
-pub fn amount(word: &[u8]) -> Amount
+pub fn amount(word: &[u8]) -> Result<i64, Fault>
     ensures { result ≡ amount_of word.now }
 {
-    if word.len() == 0 {
-        return Amount::NotANumber;
+    let Some(digits) = word.strip_prefix(b"-") else {
+        return Ok(figure(word, MOST)? as i64);
+    };
+    let n = figure(digits, LEAST)?;
+    if n == 0 {
+        return Err(Fault::NotANumber);
     }
-    if word[0] == MINUS {
-        return negative(word, 1);
-    }
-    positive(word)
+    Ok(-1 - (n - 1) as i64)
 }

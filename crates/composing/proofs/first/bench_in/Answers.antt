@@ -1,33 +1,29 @@
-use Rattle.std.proofs.Common.{sym, ◌∙◌, arith}
-use Rattle.composing.specs.Script.{script_of}
-use Rattle.composing.proofs.PassLaws.{open-blank, open-bench, open-event, open-wrong, open-end}
+use Rattle.std.proofs.Common.{◌≡◌, [], sym, ap, ◌∙◌, length, arith, rules, Ok, Err}
+use Rattle.script.specs.declared.Line.TheVariants.{Does}
+use Rattle.script.specs.Lines.{lines}
+use Rattle.composing.specs.Script.{opening, script_of}
+use Rattle.composing.proofs.PassLaws.{lines_few, open_by, open_bench}
 use Rattle.composing.proofs.first.bench_in.Goals as goal
 
-pub loop-at-preserved : goal.loop-at-preserved
-loop-at-preserved c =
-    record {
-      within = c.part-parted.ensures.inside;
-      counted = omega arith;
-      same = open-blank c.args.text.now c.loop-at.at c.loop-at-test.true c.part-parted.result c.part-parted.ensures c.loop-at.i c.in-Blank.is ∙ c.loop-at.invariant.same;
-    }
+pub overflow_add-line : goal.overflow_add-line
+overflow_add-line c = record { fits = omega (arith, c.loop-next.invariant.counted, ap length c.in-Some.ensures.steps, lines_few c.args.text.now) }
 
 pub ranged-requires : goal.ranged-requires
 unfolding script_of
 ranged-requires c =
-    let opens =
-    open-bench c.args.text.now c.loop-at.at c.loop-at-test.true c.part-parted.result c.part-parted.ensures c.loop-at.i c.in-Bench.n c.in-Bench.m c.in-Bench.is in
-    ((c.part-parted.ensures.inside, omega arith), sym c.loop-at.invariant.same ∙ opens)
+    let bench = open_bench (lines c.loop-next.lines.rest.now) c.in-Some.next.now _ c.in-Some.ensures.steps c.loop-next.line c.in-Ok-Bench.n c.in-Ok-Bench.m (sym (ap Ok c.in-Ok-Bench.field-0-is) ∙ c.in-Ok-Bench.ensures) in
+    (omega (arith, c.loop-next.invariant.counted, ap length c.in-Some.ensures.steps), sym c.loop-next.invariant.same ∙ bench)
 
-pub returns-in-Does : goal.returns-in-Does
+pub returns-in-Ok-Does : goal.returns-in-Ok-Does
 unfolding script_of
-returns-in-Does c =
-    sym c.loop-at.invariant.same ∙ open-event c.args.text.now c.loop-at.at c.loop-at-test.true c.part-parted.result c.part-parted.ensures c.loop-at.i c.in-Does.field-0 c.in-Does.is
+returns-in-Ok-Does c = sym c.loop-next.invariant.same ∙ open_by (lines c.loop-next.lines.rest.now) c.in-Some.next.now _ c.in-Some.ensures.steps c.loop-next.line (Ok (Does c.in-Ok-Does.field-0-0)) (sym (ap Ok c.in-Ok-Does.field-0-is) ∙ c.in-Ok-Does.ensures)
 
-pub returns-in-Wrong : goal.returns-in-Wrong
+pub returns-in-Err : goal.returns-in-Err
 unfolding script_of
-returns-in-Wrong c =
-    sym c.loop-at.invariant.same ∙ open-wrong c.args.text.now c.loop-at.at c.loop-at-test.true c.part-parted.result c.part-parted.ensures c.loop-at.i c.in-Wrong.fault c.in-Wrong.is
+returns-in-Err c = sym c.loop-next.invariant.same ∙ open_by (lines c.loop-next.lines.rest.now) c.in-Some.next.now _ c.in-Some.ensures.steps c.loop-next.line (Err c.in-Err.fault) c.in-Err.ensures
 
 pub returns : goal.returns
 unfolding script_of
-returns c = sym c.loop-at.invariant.same ∙ open-end c.args.text.now c.loop-at.at c.loop-at-test.false c.loop-at.i
+returns c =
+    let none : lines c.loop-next.lines.rest.now ≡ [] = search rules in
+    sym c.loop-next.invariant.same ∙ ap (opening c.loop-next.line) none

@@ -1,21 +1,23 @@
--- A digit more, and what is past every field stays so.
-use Rattle.std.proofs.Common.{ℕ, ◌+◌, ◌-◌, ◌*◌, ◌∙◌, sym, ap, drop, get_or}
-use Rattle.words.specs.RangeLaws.{and_right}
-use Rattle.script.specs.Numbers.{is_digit, digits_only, value, capped}
-use Rattle.script.specs.NumberLaws.{cap-most, cap-on}
-use Rattle.script.specs.ScanLaws.{digits_are, value-are}
+-- A digit more, or a number past 64 bits, which stays so.
+use Rattle.std.proofs.Common.{◌≡◌, ◌<◌, arith, rules}
+use Rattle.script.specs.Numbers.{value}
+use Rattle.script.proofs.NumberLaws.{value_past, value_whole}
 use Rattle.script.proofs.numbers.value_of.Goals as goal
 
-pub loop-i-preserved : goal.loop-i-preserved
-loop-i-preserved c =
-    let w = c.args.word.now in
-    let i = c.loop-i.i in
-    let d = get_or w i 0 in
-    let m = 10 * c.loop-i.n + (d - 48) in
-    record {
-      small = cap-most c.grown-n.result m c.grown-n.ensures;
-      digits = and_right (is_digit d) (digits_only (drop (i + 1) w)) (sym (digits_are w i c.loop-i-test.true) ∙ c.loop-i.invariant.digits);
-      same =
-          ap (λ (n : ℕ). capped (value n (drop (i + 1) w))) c.grown-n.ensures ∙ cap-on m (drop (i + 1) w)
-          ∙ sym (ap capped (value-are w i c.loop-i-test.true c.loop-i.n)) ∙ c.loop-i.invariant.same;
-    }
+pub returns-in_err-checked_mul : goal.returns-in_err-checked_mul
+returns-in_err-checked_mul c =
+    let past : value 0 c.args.digits.now < 18446744073709551616 → ⊥ =
+    value_past c.args.digits.now c.loop-digit.digit-index c.loop-digit.n c.loop-digit-test.true c.loop-digit.invariant.same (λ l. c.in_err-checked_mul.ensures (omega (arith, l))) in
+    search rules
+
+pub returns-in_err-n : goal.returns-in_err-n
+returns-in_err-n c =
+    let past : value 0 c.args.digits.now < 18446744073709551616 → ⊥ =
+    value_past c.args.digits.now c.loop-digit.digit-index c.loop-digit.n c.loop-digit-test.true c.loop-digit.invariant.same
+    (λ l. c.in_err-n.ensures (omega (arith, c.in_ok-checked_mul.ensures, c.from.ensures, c.saturating_sub.ensures, l))) in
+    search rules
+
+pub returns : goal.returns
+returns c =
+    let same : value 0 c.args.digits.now ≡ c.loop-digit.n = value_whole c.args.digits.now c.loop-digit.digit-index c.loop-digit.n c.loop-digit-test.false c.loop-digit.invariant.same in
+    search rules
