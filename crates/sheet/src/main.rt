@@ -87,7 +87,7 @@ fn main(rt: HostRuntime) -> io::Result<()> {
     let mut sheet = Sheet::default();
     let unread = add_all(&rt, &mut sheet, input::argument_count(&rt));
     let mut text = [0u8; LONGEST_TEXT];
-    let written = sheet_text::print(sheet, &mut text);
+    let written = sheet_text::print(sheet, &mut text).unwrap_or(0);
     let printed = rt.write_all(&text[..written]);
     if unread != 0 {
         let _ = eprintln!(rt; "files not read: {unread}");

@@ -1,5 +1,5 @@
 -- What printing a sheet gives: how many bytes the text has, or, where the buffer is not always long enough, its refusal. C has 0 for that: no text is empty.
-use Rattle.std.specs.Prelude.{ℕ, ◌≡◌, cond, List, Result, Ok, Err, leb, length, result_unwrap_or}
+use Rattle.std.specs.Prelude.{ℕ, ◌≡◌, cond, List, Result, Ok, Err, leb, length}
 use Rattle.words.specs.declared.refusal.Refusal.{Refusal}
 use Rattle.words.specs.declared.refusal.Refusal.TheVariants.{ShortOutput}
 use Rattle.figures.specs.declared.Sheet.{Sheet}

@@ -1,5 +1,5 @@
 -- Laws of the lines of a sheet: the two ways of a line, one more of the numbers met, the whole of its two parts, and what printing replies.
-use Rattle.std.specs.Prelude.{ℕ, zero, suc, ◌+◌, ◌≤◌, ◌<◌, ◌≡◌, Bool, List, [], ◌∷◌, ◌++◌, get_or, leb, take, Result, Ok, Err, result_unwrap_or}
+use Rattle.std.specs.Prelude.{ℕ, zero, suc, ◌+◌, ◌≤◌, ◌<◌, ◌≡◌, Bool, List, [], ◌∷◌, ◌++◌, get_or, leb, take, Result, Ok, Err}
 use Rattle.std.proofs.Common.{sym, subst, ◌∙◌, append_assoc, append-nil, arith, add-one, length-take, eq-eqb, ne_eqb, le-leb}
 use Rattle.std.proofs.Math.Path.{refl, ap}
 use Rattle.std.proofs.Math.Bool.{cond, true, false}
@@ -12,6 +12,7 @@ use Rattle.text.specs.LaidLaws.{laid-length}
 use Rattle.figures.specs.declared.Waits.{Waits}
 use Rattle.figures.specs.declared.Sheet.{Sheet}
 use Rattle.sheet_text.specs.SheetText.{word_wait, schedules_line, refused_line, refused_lines, mean, wait_line, sheet_text, print_reply, print_left}
+use Rattle.std.specs.Result.{result_unwrap_or}
 use Rattle.words.specs.declared.refusal.Refusal.{Refusal}
 use Rattle.words.specs.declared.refusal.Refusal.TheVariants.{ShortOutput}
 use Rattle.sheet_text.specs.Printing.{print_result}

@@ -50,7 +50,8 @@ pub fn put_operations_line(page: &mut Page<'_>, word: &str, o: Operations)
     requires { Room (length word.now + 43) page.old }
     ensures { Adds (operations_line word.now o) (length word.now + 43) page.old page.new }
 {
-    put_named(page, word, o.begun);
+    page.put_str(word);
+    page.put_number(o.begun);
     page.put_number(o.completed);
     page.put_byte(b'\n');
 }

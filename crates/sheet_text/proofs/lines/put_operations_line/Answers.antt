@@ -5,4 +5,4 @@ use Rattle.sheet_text.proofs.lines.put_operations_line.Goals as goal
 
 pub returns : goal.returns
 unfolding operations_line
-returns c = adds_text refl (omega arith) (adds_next c.put_named.ensures (adds_next c.put_number.ensures c.put_byte.ensures))
+returns c = adds_text refl (omega arith) (adds_next c.put_str.ensures (adds_next c.put_number.ensures (adds_next c.put_number-2.ensures c.put_byte.ensures)))
