@@ -13,9 +13,10 @@ const USAGE: &str = "compose < TEXT > FILE\nMakes the schedule file of a text: b
 
 fn complain(rt: &HostRuntime, line: usize, fault: Fault) -> io::Result<()> {
     let mut note = [0u8; LONGEST_COMPLAINT];
-    let printed = composing::complain(line, fault, &mut note);
-    let size = printed.size;
-    rt.stderr().write_all(&note[..size])
+    match composing::complain(line, fault, &mut note) {
+        Ok(size) => rt.stderr().write_all(&note[..size]),
+        Err(_) => Ok(()),
+    }
 }
 
 fn main(rt: HostRuntime) -> io::Result<()> {

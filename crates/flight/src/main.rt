@@ -11,7 +11,9 @@ fn main(rt: HostRuntime) -> io::Result<()> {
     let mut bytes = [0u8; LONGEST + 1];
     let mut text = [0u8; LONGEST_TEXT];
     input::run(&rt, USAGE, &mut bytes, |schedule| {
-        let printed = inflight::flight(schedule, &mut text);
-        rt.write_all(&text[..printed.size])
+        match inflight::flight(schedule, &mut text) {
+            Ok(size) => rt.write_all(&text[..size]),
+            Err(_) => Ok(()),
+        }
     })
 }
