@@ -78,6 +78,10 @@ pub fn complain(line: usize, fault: Fault, out: &mut [u8]) -> Result<usize, Refu
     if out.len() < LONGEST_COMPLAINT {
         return Err(Refusal::ShortOutput);
     }
-    let size = put_complaint(&mut *out, line, fault);
-    Ok(size)
+    let mut page = Page {
+        bytes: out,
+        used: 0,
+    };
+    put_complaint(&mut page, line, fault);
+    Ok(page.used)
 }

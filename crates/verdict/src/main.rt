@@ -25,8 +25,8 @@ fn main(rt: HostRuntime) -> io::Result<()> {
     let mut bytes = [0u8; BYTES];
     input::run(&rt, USAGE, &mut bytes, |history| {
         match verdicts::verdict(history) {
-            0 => say(&rt, b"accepted\n"),
-            number => refuse(&rt, number),
+            Ok(()) => say(&rt, b"accepted\n"),
+            Err(fault) => refuse(&rt, fault.number()),
         }
     })
 }
