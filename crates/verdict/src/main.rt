@@ -2,7 +2,9 @@
 #![tactic(auto)]
 
 use std::io;
-use text::lines::put_refusal;
+use text::page::Page;
+use text::refused::put_refused;
+use verdicts::faults::Fault;
 
 // One byte more than the longest history file has, so that a longer one is refused and not cut.
 const BYTES: usize = 14346;
@@ -23,9 +25,14 @@ fn say(rt: &(impl Print + Eprint), line: &[u8]) -> io::Result<()> {
     Ok(())
 }
 
-fn refuse(rt: &(impl Print + Eprint), number: u8) -> io::Result<()> {
+fn refuse(rt: &(impl Print + Eprint), fault: Fault) -> io::Result<()> {
     let mut line = [0u8; LONGEST_LINE];
-    let end = put_refusal(&mut line, 0, number);
+    let mut page = Page {
+        bytes: &mut line,
+        used: 0,
+    };
+    put_refused(&mut page, fault.number());
+    let end = page.used;
     say(rt, &line[..end])
 }
 
@@ -37,6 +44,6 @@ fn main(rt: HostRuntime) -> io::Result<()> {
     let read = input::read_full(&mut rt.stdin(), &mut bytes)?;
     match verdicts::verdict(&bytes[..read]) {
         Ok(()) => say(&rt, b"accepted\n"),
-        Err(fault) => refuse(&rt, fault.number()),
+        Err(fault) => refuse(&rt, fault),
     }
 }
