@@ -11,7 +11,8 @@ const BYTES: usize = 14346;
 
 const LONGEST_LINE: usize = 14;
 
-const USAGE: &str = "verdict < FILE\nTells whether the order in the history FILE explains it. The form is in docs/JUDGING.md.";
+const USAGE: &str =
+    "verdict < FILE\nTells whether the order in the history FILE explains it. The form is in docs/JUDGING.md.";
 
 fn say(rt: &HostRuntime, line: &[u8]) -> io::Result<()> {
     input::say(rt, "verdict: the verdict", line)
