@@ -5,7 +5,8 @@ use format::file::LONGEST;
 use recording::LONGEST_FILE;
 use std::io;
 
-const USAGE: &str = "history < FILE\nWrites the history file of the schedule in FILE. The form is in docs/JUDGING.md.";
+const USAGE: &str =
+    "history < FILE\nWrites the history file of the schedule in FILE. The form is in docs/JUDGING.md.";
 
 fn main(rt: HostRuntime) -> io::Result<()> {
     let mut bytes = [0u8; LONGEST + 1];

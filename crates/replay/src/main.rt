@@ -5,7 +5,8 @@ use format::file::LONGEST;
 use replaying::LONGEST_TEXT;
 use std::io;
 
-const USAGE: &str = "replay < FILE\nReplays the schedule in FILE and prints it. The numbers of refusal are in README.md.";
+const USAGE: &str =
+    "replay < FILE\nReplays the schedule in FILE and prints it. The numbers of refusal are in README.md.";
 
 fn main(rt: HostRuntime) -> io::Result<()> {
     let mut bytes = [0u8; LONGEST + 1];
