@@ -4,6 +4,7 @@
 use std::io;
 use text::page::Page;
 use text::refused::put_refused;
+use verdicts::faults::Fault;
 
 // One byte more than the longest history file has, so that a longer one is refused and not cut.
 const BYTES: usize = 14346;
@@ -17,13 +18,13 @@ fn say(rt: &HostRuntime, line: &[u8]) -> io::Result<()> {
     input::say(rt, "verdict: the verdict", line)
 }
 
-fn refuse(rt: &HostRuntime, number: u8) -> io::Result<()> {
+fn refuse(rt: &HostRuntime, fault: Fault) -> io::Result<()> {
     let mut line = [0u8; LONGEST_LINE];
     let mut page = Page {
         bytes: &mut line,
         used: 0,
     };
-    put_refused(&mut page, number);
+    put_refused(&mut page, fault.number());
     let end = page.used;
     say(rt, &line[..end])
 }
@@ -33,7 +34,7 @@ fn main(rt: HostRuntime) -> io::Result<()> {
     input::run(&rt, USAGE, &mut bytes, |history| {
         match verdicts::verdict(history) {
             Ok(()) => say(&rt, b"accepted\n"),
-            Err(fault) => refuse(&rt, fault.number()),
+            Err(fault) => refuse(&rt, fault),
         }
     })
 }
