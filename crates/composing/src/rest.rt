@@ -42,13 +42,11 @@ pub fn survey(text: &[u8], number: usize) -> Result<usize, NotComposed>
     ensures { result ≡ surveyed 7 (following number 7 (lines text.now)) }
 {
     let mut size = HEAD;
-    let mut line = number;
-    for next in (Lines { rest: text }) {
+    for (line, next) in (number..).zip(Lines { rest: text }) {
         match grown(size, next) {
             Ok(more) => size = more,
             Err(fault) => return Err(NotComposed::Wrong { line, fault }),
         }
-        line += 1;
     }
     Ok(size)
 }
