@@ -1,17 +1,18 @@
 -- A text that was written into an output that is long enough is the reply and what is left; a shorter output stays.
-use Rattle.std.specs.Prelude.{ℕ, ◌≤◌, ◌<◌, ◌≡◌, Bool, List}
+use Rattle.std.specs.Prelude.{ℕ, ◌≤◌, ◌<◌, ◌≡◌, Bool, List, Ok, Err}
 use Rattle.std.proofs.Common.{sym, subst, ◌∙◌, arith, length-take, le-leb}
 use Rattle.std.proofs.Math.Path.{ap}
 use Rattle.std.proofs.Math.Bool.{cond}
 use Rattle.std.proofs.Math.ListN.{length}
 use Rattle.std.proofs.lemmas.Bool.{lt-leb}
+use Rattle.words.specs.declared.refusal.Refusal.TheVariants.{ShortOutput}
 use Rattle.tables.specs.Tables.{laid_at}
 use Rattle.text.specs.Written.{Wrote}
 use Rattle.text.specs.LaidLaws.{laid-length}
-use Rattle.buffer.specs.Printing.{print_reply, print_left, Fronts}
+use Rattle.buffer.specs.Printing.{printed, print_reply, print_left, Fronts}
 
 module _ (enough : ℕ) (text out : List ℕ) where
-  pub long-reply : enough ≤ length out → {most r : ℕ} {out' : List ℕ} → Wrote 0 text most out out' r → record { refusal = 0; size = r } ≡ print_reply enough text (length out)
+  pub long-reply : enough ≤ length out → {most r : ℕ} {out' : List ℕ} → Wrote 0 text most out out' r → printed (Ok r) ≡ print_reply enough text (length out)
   unfolding print_reply
   long-reply l {most} {r} {out'} w =
       let counted : r ≡ length text = omega (arith, w.ends) in
@@ -21,7 +22,7 @@ module _ (enough : ℕ) (text out : List ℕ) where
   unfolding print_left
   long-left l w = w.lays ∙ ap (λ (t : Bool). cond t (laid_at 0 text out) out) (sym (le-leb enough (length out) l))
 
-  pub short-reply : length out < enough → record { refusal = 19; size = 0 } ≡ print_reply enough text (length out)
+  pub short-reply : length out < enough → printed (Err ShortOutput) ≡ print_reply enough text (length out)
   unfolding print_reply
   short-reply l = ap (λ (t : Bool). cond t (record { refusal = 0; size = length text }) (record { refusal = 19; size = 0 })) (sym (lt-leb enough (length out) l))
 

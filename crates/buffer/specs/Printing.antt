@@ -1,8 +1,19 @@
 -- What a function replies that writes a text into a lent output, and what it leaves there. So many bytes are always enough for the text; an output that is shorter is
 -- refused by 19, whether or not this text would fit.
-use Rattle.std.specs.Prelude.{ℕ, ◌≤◌, ◌≡◌, cond, List, leb, length, take}
+use Rattle.std.specs.Prelude.{ℕ, ◌≤◌, ◌≡◌, cond, List, leb, length, take, Result, Ok, Err}
 use Rattle.tables.specs.Tables.{laid_at}
-use Rattle.buffer.specs.declared.Printed.{Printed}
+use Rattle.words.specs.declared.refusal.Refusal.{Refusal}
+use Rattle.words.specs.Refusals.{number}
+
+-- the number of refusal, 0 where the text was written, and how many bytes it has
+pub record Printed : Type 0 where
+  pub refusal : ℕ
+  pub size : ℕ
+
+-- what a result says of it
+abbrev pub printed : Result ℕ Refusal → Printed
+printed (Ok size) = record { refusal = 0; size = size }
+printed (Err e) = record { refusal = number e; size = 0 }
 
 unfoldable pub print_reply : ℕ → List ℕ → ℕ → Printed
 print_reply enough text room = cond (leb enough room) (record { refusal = 0; size = length text }) (record { refusal = 19; size = 0 })

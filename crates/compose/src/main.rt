@@ -17,9 +17,10 @@ fn help(rt: &impl Eprint) -> io::Result<()> {
 
 fn complain(rt: &HostRuntime, line: usize, fault: Fault) -> io::Result<()> {
     let mut note = [0u8; 66];
-    let printed = composing::complain(line, fault, &mut note);
-    let size = printed.size;
-    rt.stderr().write_all(&note[..size])
+    match composing::complain(line, fault, &mut note) {
+        Ok(size) => rt.stderr().write_all(&note[..size]),
+        Err(_) => Ok(()),
+    }
 }
 
 fn main(rt: HostRuntime) -> io::Result<()> {

@@ -6,7 +6,7 @@ ghost use Rattle.words.specs.Ranges.{within};
 ghost use Rattle.writing.specs.Bytes.{events_bytes};
 ghost use Rattle.writing.specs.Writing.{write_left};
 ghost use Rattle.script.specs.Lines.{lines};
-ghost use Rattle.buffer.specs.Printing.{print_reply, print_left, Fronts};
+ghost use Rattle.buffer.specs.Printing.{printed, print_reply, print_left, Fronts};
 ghost use Rattle.composing.specs.Complaint.{complaint};
 ghost use Rattle.composing.specs.Composed.{compose_reply, compose_left};
 ghost use Rattle.composing.specs.Passes.{events_in, filed_as, Fits};
@@ -14,9 +14,9 @@ ghost use Rattle.composing.specs.Passes.{events_in, filed_as, Fits};
 use crate::complaint::put_complaint;
 use crate::first::bench_in;
 use crate::rest::{put_script, survey};
-use buffer::{Printed, SHORT_OUTPUT};
 use script::Fault;
 use writing::file::put_head;
+use words::refusal::Refusal;
 
 mod complaint;
 mod first;
@@ -66,19 +66,13 @@ pub fn compose(text: &[u8], out: &mut [u8]) -> Result<usize, NotComposed>
 }
 
 // What is said of a line that is wrong, at the front of a lent output. An output of fewer than 66 bytes is refused by 19 and left as it was.
-pub fn complain(line: usize, fault: Fault, out: &mut [u8]) -> Printed
-    ensures value { (result ≡ print_reply 66 (complaint line fault) (length out.old)) × (out.new ≡ print_left 66 (complaint line fault) out.old) }
-    ensures fronts { Fronts result.size out.new }
+pub fn complain(line: usize, fault: Fault, out: &mut [u8]) -> Result<usize, Refusal>
+    ensures value { (printed result ≡ print_reply 66 (complaint line fault) (length out.old)) × (out.new ≡ print_left 66 (complaint line fault) out.old) }
+    ensures fronts { Fronts (printed result).size out.new }
 {
     if out.len() < LONGEST_COMPLAINT {
-        return Printed {
-            refusal: SHORT_OUTPUT,
-            size: 0,
-        };
+        return Err(Refusal::ShortOutput);
     }
     let size = put_complaint(&mut *out, line, fault);
-    Printed {
-        refusal: 0,
-        size: size,
-    }
+    Ok(size)
 }

@@ -1,10 +1,10 @@
 -- What a run over a table of 512 messages says of its file, from whether its bench has processes; and that the text which is written from it is the file's.
-use Rattle.std.specs.Prelude.{ℕ, ◌+◌, ◌-◌, ◌*◌, ◌≤◌, ◌<◌, ◌≡◌, Bool, true, false, not, List, [], ◌∷◌, ◌++◌, eqb, length, take, get_or, replicate}
+use Rattle.std.specs.Prelude.{ℕ, ◌+◌, ◌-◌, ◌*◌, ◌≤◌, ◌<◌, ◌≡◌, Bool, true, false, List, [], ◌∷◌, ◌++◌, eqb, length, take, get_or, replicate}
 use Rattle.std.proofs.Math.Path.{refl, ap}
-use Rattle.std.proofs.Common.{sym, subst, ◌∙◌, true≢false, append_assoc, append-nil, arith, add-one, length-append, take-suc, eqb-true, eq-eqb}
+use Rattle.std.proofs.Common.{sym, subst, ◌∙◌, append_assoc, append-nil, arith, length-append, length-take, eqb-true}
 use Rattle.std.proofs.Math.Bool.{cond}
 use Rattle.std.proofs.Math.Seq.{take-append_seam}
-use Rattle.std.proofs.lemmas.Bool.{not-false}
+use Rattle.std.proofs.lemmas.List.{length-replicate, take_more}
 use Rattle.words.specs.declared.Message.{Message}
 use Rattle.tables.specs.declared.Row.{Row}
 use Rattle.tables.specs.Tables.{empty_message}
@@ -21,8 +21,9 @@ use Rattle.format.proofs.FileLaws.{file-opens}
 use Rattle.schedule.specs.Opening.{opening_refusal, opens, ran_file, run_reply, run_messages}
 use Rattle.schedule.proofs.FileLaws.{file-reached}
 use Rattle.text.specs.Printed.{printed_refusal}
-use Rattle.text.specs.Written.{Wrote}
-use Rattle.text.specs.WrittenLaws.{as_text}
+use Rattle.text.specs.declared.page.Page.{Page}
+use Rattle.text.specs.Paged.{Adds}
+use Rattle.text.specs.PagedLaws.{adds_text}
 use Rattle.inflight.specs.Flight.{message_line, message_lines, in_flight, messages_left}
 
 -- ---- the lines of a table's front, one more
@@ -35,7 +36,7 @@ pub one-message : (messages : List Message) (i : ℕ) (none : Message) → i < l
     → message_lines (take i messages) ++ message_line (get_or messages i none) ≡ message_lines (take (i + 1) messages)
 one-message messages i none inside =
     sym (lines-last (take i messages) (get_or messages i none))
-    ∙ sym (ap (λ (n : ℕ). message_lines (take n messages)) (add-one i) ∙ ap message_lines (take-suc messages i none inside))
+    ∙ ap message_lines (sym (take_more messages i none inside))
 
 -- ---- a run whose history has 1,024 rows
 
@@ -95,45 +96,51 @@ module _ (bytes : List ℕ) (messages : List Message) (long : length messages �
   some-process : eqb (file_refusal bytes) 0 ≡ true → 1 ≤ r.bench.n
   some-process z = subst (λ (x : Stepped). 1 ≤ x.bench.n) (sym (reply-is true z)) (well stopped (reached-well-formed stopped (reached z))).processes.least
 
-  pub begun : not (eqb r.bench.n 0) ≡ true → Flying bytes r messages'
+  begun : (r.bench.n ≡ 0 → ⊥) → Flying bytes r messages'
   begun h = go (eqb (file_refusal bytes) 0) refl
     where
       go : (t : Bool) → eqb (file_refusal bytes) 0 ≡ t → Flying bytes r messages'
       go true z = flying z
-      go false z = absurd (true≢false (sym h ∙ ap not (eq-eqb r.bench.n 0 (ap (λ (x : Stepped). x.bench.n) (reply-is false z)))))
+      go false z = absurd (h (ap (λ (x : Stepped). x.bench.n) (reply-is false z)))
 
-  unbegun : not (eqb r.bench.n 0) ≡ false → eqb (file_refusal bytes) 0 ≡ false
+  unbegun : r.bench.n ≡ 0 → eqb (file_refusal bytes) 0 ≡ false
   unbegun h = go (eqb (file_refusal bytes) 0) refl
     where
       go : (t : Bool) → eqb (file_refusal bytes) 0 ≡ t → t ≡ false
       go false z = refl
-      go true z = absurd (impossible (some-process z) (eqb-true r.bench.n 0 (not-false (eqb r.bench.n 0) h)))
-        where
-          impossible : 1 ≤ r.bench.n → r.bench.n ≡ 0 → ⊥
-          impossible l q = omega (arith, l, q)
+      go true z = absurd (let some = some-process z in omega (arith, some, h))
 
   -- a file that starts no bench: its number
-  pub text-refused : not (eqb r.bench.n 0) ≡ false → (k : ℕ) → k ≡ r.refusal → (xs ys : List ℕ) (end : ℕ) → Wrote 0 (printed_refusal k) 14 xs ys end → Wrote 0 (in_flight bytes) 73728 xs ys end
-  text-refused h k ek xs ys end w = as_text (ap printed_refusal given ∙ sym (by-test bytes false (unbegun h))) (omega arith) w
+  text-refused : r.bench.n ≡ 0 → {p q : Page} → Adds (printed_refusal r.refusal) 14 p q → Adds (in_flight bytes) 73728 p q
+  text-refused h w = adds_text (ap printed_refusal given ∙ sym (by-test bytes false (unbegun h))) (omega arith) w
     where
-      given : k ≡ file_refusal bytes
-      given = ek ∙ ap (λ (x : Stepped). x.refusal) (reply-is false (unbegun h)) ∙ number_is
+      given : r.refusal ≡ file_refusal bytes
+      given = ap (λ (x : Stepped). x.refusal) (reply-is false (unbegun h)) ∙ number_is
+
+-- a run over a table of 512 empty messages
+module _ (bytes : List ℕ) (none : Message) {r : Stepped} {messages : List Message}
+    (e : (r ≡ run_reply (length (replicate 512 none)) 1024 bytes) × (messages ≡ messages_left bytes (replicate 512 none))) where
+  pub flown : (r.bench.n ≡ 0 → ⊥) → Flying bytes r messages
+  flown h = begun bytes (replicate 512 none) (length-replicate 512 none) r e.0 messages e.1 h
+
+  pub refused : r.bench.n ≡ 0 → {p q : Page} → Adds (printed_refusal r.refusal) 14 p q → Adds (in_flight bytes) 73728 p q
+  refused h w = text-refused bytes (replicate 512 none) (length-replicate 512 none) r e.0 messages e.1 h w
 
 -- ---- the text of the messages in flight
 
-module _ (bytes : List ℕ) (r : Stepped) (messages : List Message) (s : Flying bytes r messages) (u : ℕ) (eu : u ≡ r.bench.flight) where
-  pub few-messages : u ≤ 512
-  few-messages = omega (arith, eu, s.few)
-
-  pub in_table : u ≤ length messages
+module _ {bytes : List ℕ} {r : Stepped} {messages : List Message} (s : Flying bytes r messages) where
+  pub in_table : r.bench.flight ≤ length messages
   in_table =
-      subst (λ (l : List Message). u ≤ length l) (sym s.laid)
-      (omega (arith, eu, s.count, length-append (ran_file bytes).state.flight (replicate (512 - length (ran_file bytes).state.flight) empty_message)))
+      subst (λ (l : List Message). r.bench.flight ≤ length l) (sym s.laid)
+      (omega (arith, s.count, length-append (ran_file bytes).state.flight (replicate (512 - length (ran_file bytes).state.flight) empty_message)))
 
-  front : take u messages ≡ (ran_file bytes).state.flight
+  front : take r.bench.flight messages ≡ (ran_file bytes).state.flight
   front =
-      ap (λ (l : List Message). take u l) s.laid ∙ ap (λ (n : ℕ). take n (laid_messages (ran_file bytes).state)) (eu ∙ s.count)
+      ap (λ (l : List Message). take r.bench.flight l) s.laid ∙ ap (λ (n : ℕ). take n (laid_messages (ran_file bytes).state)) s.count
       ∙ take-append_seam (ran_file bytes).state.flight (replicate (512 - length (ran_file bytes).state.flight) empty_message)
 
-  pub text-written : (xs ys : List ℕ) (end : ℕ) → Wrote 0 (message_lines (take u messages)) (144 * u) xs ys end → Wrote 0 (in_flight bytes) 73728 xs ys end
-  text-written xs ys end w = as_text (ap message_lines front ∙ sym (by-test bytes true s.file)) (omega (arith, few-messages)) w
+  pub few-lines : 144 * length (take r.bench.flight messages) ≤ 73728
+  few-lines = omega (arith, s.few, length-take r.bench.flight messages)
+
+  pub text-written : {p q : Page} → Adds (message_lines (take r.bench.flight messages)) (144 * length (take r.bench.flight messages)) p q → Adds (in_flight bytes) 73728 p q
+  text-written w = adds_text (ap message_lines front ∙ sym (by-test bytes true s.file)) few-lines w

@@ -1,78 +1,66 @@
 // The line of a message: its envelope, and its body.
 ghost use Rattle.std.specs.Prelude.{◌+◌, ◌≤◌, ◌++◌, length};
+ghost use Rattle.text.specs.Paged.{Room, Adds};
 ghost use Rattle.text.specs.Printed.{number};
-ghost use Rattle.text.specs.Written.{Wrote};
 ghost use Rattle.inflight.specs.Flight.{word_message, pair_text, body_text, message_line};
 
-use buffer::bytes::{NEWLINE, put_byte, put_word};
-use buffer::numbers::{put_number, put_small, put_value};
+use text::page::Page;
 use words::{Body, Message, Pair};
 
 // Number, sender and recipient.
-fn put_ends(buf: &mut [u8], at: usize, k: u32, from: u8, to: u8) -> usize
-    requires { at + 40 ≤ length buf.old }
-    ensures { Wrote at (word_message ++ (number k ++ (number from ++ number to))) 40 buf.old buf.new result }
+fn put_ends(page: &mut Page<'_>, message: &Message)
+    requires { Room 26 page.old }
+    ensures { Adds (word_message ++ (number message.now.number ++ (number message.now.from.0 ++ number message.now.to.0))) 26 page.old page.new }
 {
-    let a = put_word(&mut *buf, at, b"message");
-    let b = put_number(&mut *buf, a, k as u64);
-    let c = put_small(&mut *buf, b, from as u16);
-    put_small(&mut *buf, c, to as u16)
+    page.put_str("message");
+    page.put_number(message.number);
+    page.put_number(message.from.0);
+    page.put_number(message.to.0);
 }
 
-fn put_pair(buf: &mut [u8], at: usize, pair: Pair) -> usize
-    requires { at + 48 ≤ length buf.old }
-    ensures { Wrote at (pair_text pair) 48 buf.old buf.new result }
+fn put_pair(page: &mut Page<'_>, pair: Pair)
+    requires { Room 48 page.old }
+    ensures { Adds (pair_text pair) 48 page.old page.new }
 {
-    let a = put_number(&mut *buf, at, pair.stamp.time.0 as u64);
-    let b = put_small(&mut *buf, a, pair.stamp.process.0 as u16);
-    put_value(&mut *buf, b, pair.value)
+    page.put_number(pair.stamp.time.0);
+    page.put_number(pair.stamp.process.0);
+    page.put_value(pair.value);
 }
 
 // A word and a register.
-fn put_register(buf: &mut [u8], at: usize, word: &[u8], x: u8) -> usize
-    requires { at + length word.now + 6 ≤ length buf.old }
-    ensures { Wrote at (word.now ++ number x) (length word.now + 6) buf.old buf.new result }
+fn put_register(page: &mut Page<'_>, word: &str, x: u8)
+    requires { Room (length word.now + 6) page.old }
+    ensures { Adds (word.now ++ number x) (length word.now + 6) page.old page.new }
 {
-    let a = put_word(&mut *buf, at, word);
-    put_small(&mut *buf, a, x as u16)
+    page.put_str(word);
+    page.put_number(x);
 }
 
-fn put_response(buf: &mut [u8], at: usize, pair: Pair) -> usize
-    requires { at + 61 ≤ length buf.old }
-    ensures { Wrote at (body_text (Body.Response pair)) 61 buf.old buf.new result }
-{
-    let a = put_word(&mut *buf, at, b" response");
-    put_pair(&mut *buf, a, pair)
-}
-
-fn put_update(buf: &mut [u8], at: usize, x: u8, pair: Pair) -> usize
-    requires { at + 61 ≤ length buf.old }
-    ensures { Wrote at (body_text (Body.Update x pair)) 61 buf.old buf.new result }
-{
-    let a = put_register(&mut *buf, at, b" update", x);
-    put_pair(&mut *buf, a, pair)
-}
-
-fn put_body(buf: &mut [u8], at: usize, body: Body) -> usize
-    requires { at + 61 ≤ length buf.old }
-    ensures { Wrote at (body_text body) 61 buf.old buf.new result }
+fn put_body(page: &mut Page<'_>, body: Body)
+    requires { Room 61 page.old }
+    ensures { Adds (body_text body) 61 page.old page.new }
 {
     match body {
-        Body::Query(x) => put_register(&mut *buf, at, b" query", x),
-        Body::Response(pair) => put_response(&mut *buf, at, pair),
-        Body::Update(x, pair) => put_update(&mut *buf, at, x, pair),
-        Body::Ack => put_word(&mut *buf, at, b" ack"),
+        Body::Query(x) => put_register(page, " query", x),
+        Body::Response(pair) => {
+            page.put_str(" response");
+            put_pair(page, pair);
+        }
+        Body::Update(x, pair) => {
+            put_register(page, " update", x);
+            put_pair(page, pair);
+        }
+        Body::Ack => page.put_str(" ack"),
     }
 }
 
-pub fn put_message_line(buf: &mut [u8], at: usize, message: Message) -> usize
-    requires { at + 144 ≤ length buf.old }
-    ensures { Wrote at (message_line message) 144 buf.old buf.new result }
+pub fn put_message_line(page: &mut Page<'_>, message: &Message)
+    requires { Room 144 page.old }
+    ensures { Adds (message_line message.now) 144 page.old page.new }
 {
-    let body = message.body;
-    let a = put_ends(&mut *buf, at, message.number, message.from.0, message.to.0);
-    let b = put_number(&mut *buf, a, message.time.0 as u64);
-    let c = put_number(&mut *buf, b, message.rid.0 as u64);
-    let d = put_body(&mut *buf, c, body);
-    put_byte(&mut *buf, d, NEWLINE)
+    put_ends(page, message);
+    page.put_number(message.time.0);
+    page.put_number(message.rid.0);
+    put_body(page, message.body);
+    page.put_byte(b'\n');
 }

@@ -18,19 +18,6 @@ pub fn limits_of(b: Bench) -> Limits
     }
 }
 
-// How many messages are in flight, and how many rows are in use.
-pub fn flight_of(b: Bench) -> u16
-    ensures { result ≡ b.flight }
-{
-    b.flight
-}
-
-pub fn rows_of(b: Bench) -> u16
-    ensures { result ≡ b.rows }
-{
-    b.rows
-}
-
 pub fn counts_fit(b: Bench) -> bool
     ensures { result ≡ counts_judged b }
 {

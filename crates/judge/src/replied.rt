@@ -6,8 +6,7 @@ ghost use Rattle.judge.specs.Scans.{limited};
 
 use crate::Limits;
 use crate::needed::{acks_needed, responses_needed};
-use crate::rows::is_write;
-use tables::Row;
+use tables::{Kind, Row};
 use words::quorum::size;
 use words::ranges::repliers_fit;
 
@@ -36,12 +35,10 @@ fn has_updated(l: Limits, acked: u8) -> bool
 pub fn query_fits(l: Limits, r: Row) -> bool
     ensures { result ≡ query_fits (limited l) r }
 {
-    let kind = r.kind;
     let heard = r.replied.query;
-    if is_write(kind) {
-        heard == 0
-    } else {
-        has_queried(l, heard) | ((r.answered.0 == 0) & (heard == 0))
+    match r.kind {
+        Kind::Write => heard == 0,
+        Kind::Read => has_queried(l, heard) | ((r.answered.0 == 0) & (heard == 0)),
     }
 }
 
@@ -49,10 +46,9 @@ pub fn query_fits(l: Limits, r: Row) -> bool
 pub fn update_fits(l: Limits, r: Row) -> bool
     ensures { result ≡ update_fits (limited l) r }
 {
-    let acked = r.replied.update;
     if r.answered.0 == 0 {
-        acked == 0
+        r.replied.update == 0
     } else {
-        has_updated(l, acked)
+        has_updated(l, r.replied.update)
     }
 }

@@ -1,38 +1,21 @@
-// One row, in use or of an unused place; the pending rows of each process; and the step of the scan.
-ghost use Rattle.std.specs.Prelude.{◌≡◌};
-ghost use Rattle.words.specs.Ranges.{is_zero};
-ghost use Rattle.state.specs.WellFormed.{is_write, row_fits};
+// One row, in use or of an unused place; the pending rows of each process; and all rows.
+ghost use Rattle.std.specs.Prelude.{◌≡◌, ◌≤◌, length, replicate};
+ghost use Rattle.state.specs.WellFormed.{row_fits};
 ghost use Rattle.state.specs.Tabled.{is_empty_row};
-ghost use Rattle.judge.specs.Scans.{limited, is_pending, noted, noted_in, start_rows, scan_row};
+ghost use Rattle.judge.specs.declared.Waiting.TheVariants.{Nothing};
+ghost use Rattle.judge.specs.Scans.{limited, is_pending, noted, noted_in, scanned, rows_judged};
 
-use crate::{Limits, RowScan, Waiting, replied};
+use crate::{Limits, Pending, Waiting, replied};
 use tables::{Kind, Row};
 use words::Pair;
 use words::limits::{PROCESSES, ROW_PLACES, ROWS};
 use words::ranges::{is_within, pair_fits};
 
-pub fn is_write(kind: Kind) -> bool
-    ensures { result ≡ is_write kind }
-{
-    match kind {
-        Kind::Read => false,
-        Kind::Write => true,
-    }
-}
-
-pub fn is_zero(value: i64) -> bool
-    ensures { result ≡ is_zero value }
-{
-    value == 0
-}
-
 fn row_fits(l: Limits, r: Row) -> bool
     ensures { result ≡ row_fits (limited l) r }
 {
-    let kind = r.kind;
-    let stamp = r.stamp;
     let pair = Pair {
-        stamp: stamp,
+        stamp: r.stamp,
         value: r.value,
     };
     is_within(r.process.0, l.n)
@@ -40,7 +23,7 @@ fn row_fits(l: Limits, r: Row) -> bool
         & (r.invoked.0 <= l.accepted)
         & (r.answered.0 <= l.accepted)
         & pair_fits(pair, l.accepted, l.n)
-        & (!is_write(kind) | (r.stamp.time.0 != 0))
+        & (matches!(r.kind, Kind::Read) | (r.stamp.time.0 != 0))
         & replied::query_fits(l, r)
         & replied::update_fits(l, r)
 }
@@ -48,17 +31,7 @@ fn row_fits(l: Limits, r: Row) -> bool
 fn is_empty_row(r: Row) -> bool
     ensures { result ≡ is_empty_row r }
 {
-    let kind = r.kind;
-    (r.process.0 == 0)
-        & !is_write(kind)
-        & (r.register == 0)
-        & (r.invoked.0 == 0)
-        & (r.answered.0 == 0)
-        & (r.stamp.time.0 == 0)
-        & (r.stamp.process.0 == 0)
-        & is_zero(r.value)
-        & (r.replied.query == 0)
-        & (r.replied.update == 0)
+    r == Row::default()
 }
 
 // A row of a process that was not answered yet.
@@ -69,79 +42,57 @@ fn is_pending(r: Row) -> bool
 }
 
 // One more pending row of a process.
-fn one_more(w: Waiting, place: usize, write: bool, query: u8) -> Waiting
-    ensures { result ≡ noted w place write query }
+fn one_more(w: Waiting, number: usize, r: Row) -> Waiting
+    ensures { result ≡ noted w number r }
 {
-    if w.some {
-        Waiting {
-            some: true,
-            several: true,
-            place: w.place,
-            write: w.write,
-            query: w.query,
-        }
-    } else {
-        Waiting {
-            some: true,
-            several: false,
-            place: place,
-            write: write,
-            query: query,
-        }
+    match w {
+        Waiting::Nothing => Waiting::One(Pending {
+            row: number,
+            write: matches!(r.kind, Kind::Write),
+            query: r.replied.query,
+        }),
+        Waiting::One(_) => Waiting::Several,
+        Waiting::Several => w,
     }
 }
 
 // A row is noted for its process, if it is pending.
-fn note(waiting: [Waiting; 7], place: usize, r: Row) -> [Waiting; 7]
-    ensures { result ≡ noted_in waiting place r }
+fn note(waiting: &mut [Waiting; 7], number: usize, r: Row)
+    ensures { waiting.new ≡ noted_in waiting.old number r }
 {
     if is_pending(r) {
         let at = (r.process.0 - 1) as usize;
-        let kind = r.kind;
-        let write = is_write(kind);
-        let old = waiting[at];
-        let mut next = waiting;
-        next[at] = one_more(old, place, write, r.replied.query);
-        next
-    } else {
-        waiting
+        let seen = waiting[at];
+        waiting[at] = one_more(seen, number, r);
     }
 }
 
-// Nothing was seen yet of a history of so many places.
-pub fn start_rows(places: usize, rows: u16) -> RowScan
-    ensures { result ≡ start_rows places rows }
+// What is seen of the rows in use; nothing where one of them does not fit.
+fn waiting_of(l: Limits, rows: &[Row]) -> Option<[Waiting; 7]>
+    requires { length rows.now ≤ 1024 }
+    ensures { result ≡ scanned (limited l) (replicate 7 Nothing) 1 rows.now }
 {
-    let none = Waiting {
-        some: false,
-        several: false,
-        place: 0,
-        write: false,
-        query: 0,
-    };
-    RowScan {
-        ok: (places == ROW_PLACES) & (rows <= ROWS),
-        left: rows,
-        waiting: [none; 7],
+    let mut waiting = [Waiting::Nothing; 7];
+    for (i, r) in rows.iter().enumerate() {
+        if !row_fits(l, *r) {
+            return None;
+        }
+        note(&mut waiting, i + 1, *r);
     }
+    Some(waiting)
 }
 
-// The next row was seen: it fits, or its place is unused.
-pub fn scan_row(l: Limits, s: RowScan, place: usize, r: Row) -> RowScan
-    ensures { result ≡ scan_row (limited l) place s r }
+// What is seen of the history; nothing where a row does not fit or a place behind them is not empty.
+pub fn waiting_in(l: Limits, used: u16, t: &[Row]) -> Option<[Waiting; 7]>
+    ensures { result ≡ rows_judged (limited l) used t.now }
 {
-    let waiting = s.waiting;
-    if s.left == 0 {
-        RowScan {
-            ok: s.ok & is_empty_row(r),
-            left: 0,
-            waiting: waiting,
-        }
+    if (t.len() != ROW_PLACES) | (used > ROWS) {
+        return None;
+    }
+    let (rows, unused) = t.split_at(used as usize);
+    if unused.iter().all(|r| is_empty_row(*r)) {
+        waiting_of(l, rows)
     } else {
-        RowScan {
-            ok: s.ok & row_fits(l, r),
-            left: s.left - 1,
-            waiting: note(waiting, place, r),
-        }
+        None
     }
 }

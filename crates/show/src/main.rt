@@ -18,7 +18,8 @@ fn main(rt: HostRuntime) -> io::Result<()> {
     let mut bytes = [0u8; 65537];
     let mut text = [0u8; 393216];
     let read = input::read_full(&mut rt.stdin(), &mut bytes)?;
-    let printed = showing::show(&bytes[..read], &mut text);
-    let size = printed.size;
-    rt.write_all(&text[..size])
+    match showing::show(&bytes[..read], &mut text) {
+        Ok(size) => rt.write_all(&text[..size]),
+        Err(_) => Ok(()),
+    }
 }

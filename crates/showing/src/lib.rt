@@ -4,14 +4,14 @@
 ghost use Rattle.std.specs.Prelude.{◌≡◌, ◌+◌, ◌-◌, ◌*◌, ◌≤◌, length};
 ghost use Rattle.text.specs.Written.{Wrote};
 ghost use Rattle.format.specs.Format.{file_refusal};
-ghost use Rattle.buffer.specs.Printing.{print_reply, print_left, Fronts};
+ghost use Rattle.buffer.specs.Printing.{printed, print_reply, print_left, Fronts};
 ghost use Rattle.writing.specs.Reading.{read_out};
 ghost use Rattle.showing.specs.Shown.{reading_text, shown};
 
-use buffer::{Printed, SHORT_OUTPUT};
 use format::events::event_at;
 use format::file::{HEAD, M_AT, N_AT, file_refusal};
 use text::lines::put_refusal;
+use words::refusal::Refusal;
 
 mod lines;
 
@@ -57,19 +57,13 @@ fn show_into(out: &mut [u8], bytes: &[u8]) -> usize
 }
 
 // The text of a schedule file, at the front of a lent output. An output of fewer than 393,216 bytes is refused by 19 and left as it was.
-pub fn show(bytes: &[u8], out: &mut [u8]) -> Printed
-    ensures value { (result ≡ print_reply 393216 (shown bytes.now) (length out.old)) × (out.new ≡ print_left 393216 (shown bytes.now) out.old) }
-    ensures fronts { Fronts result.size out.new }
+pub fn show(bytes: &[u8], out: &mut [u8]) -> Result<usize, Refusal>
+    ensures value { (printed result ≡ print_reply 393216 (shown bytes.now) (length out.old)) × (out.new ≡ print_left 393216 (shown bytes.now) out.old) }
+    ensures fronts { Fronts (printed result).size out.new }
 {
     if out.len() < LONGEST_TEXT {
-        return Printed {
-            refusal: SHORT_OUTPUT,
-            size: 0,
-        };
+        return Err(Refusal::ShortOutput);
     }
     let size = show_into(&mut *out, bytes);
-    Printed {
-        refusal: 0,
-        size: size,
-    }
+    Ok(size)
 }

@@ -1,8 +1,8 @@
 -- Laws of the lines: what a row's and a register's line are made of, and one more of a run of lines.
 use Rattle.std.specs.Prelude.{ℕ, zero, suc, ◌+◌, ◌-◌, ◌<◌, ◌≤◌, ◌≡◌, refl, true, false, List, [], ◌∷◌, ◌++◌, length, get_or, take}
-use Rattle.std.proofs.Common.{sym, subst, ap, ◌∙◌, append_assoc, append-nil, arith, add-one, take-suc, length-take, length-take-le, eq-eqb, ne_eqb, eqb-true}
+use Rattle.std.proofs.Common.{sym, subst, ap, ◌∙◌, append_assoc, append-nil, arith, add-one, length-take, length-take-le, eq-eqb, ne_eqb, eqb-true}
 use Rattle.std.proofs.lemmas.Bool.{eqb-false}
-use Rattle.std.proofs.lemmas.List.{get_or-take}
+use Rattle.std.proofs.lemmas.List.{get_or-take, take_more}
 use Rattle.words.specs.declared.Pair.{Pair}
 use Rattle.words.specs.Stamps.{start_pair}
 use Rattle.words.specs.declared.Message.{Message}
@@ -84,7 +84,7 @@ pub one_number : (order : List ℕ) (i : ℕ) → i < length order → numbers (
 one_number order i more =
     ap (λ (l : List ℕ). numbers (take i order) ++ l) (sym (append-nil (number (get_or order i 0))))
     ∙ sym (numbers-both (take i order) (get_or order i 0 ∷ []))
-    ∙ ap numbers (sym (take-suc order i 0 more) ∙ ap (λ (k : ℕ). take k order) (sym (add-one i)))
+    ∙ ap numbers (sym (take_more order i 0 more))
 
 -- a run of lines, one for each number from x on: one more at its end
 abbrev run : (ℕ → List ℕ) → ℕ → ℕ → List ℕ
@@ -167,7 +167,7 @@ one-row rows i d more =
     ap (λ (l : List ℕ). row_lines 1 (take i rows) ++ l) (sym (append-nil (row_line (i + 1) (get_or rows i d))))
     ∙ ap (λ (j : ℕ). row_lines 1 (take i rows) ++ row_lines j (get_or rows i d ∷ [])) same
     ∙ sym (rows_both 1 (take i rows) (get_or rows i d ∷ []))
-    ∙ ap (row_lines 1) (sym (take-suc rows i d more) ∙ ap (λ (k : ℕ). take k rows) (sym (add-one i)))
+    ∙ ap (row_lines 1) (sym (take_more rows i d more))
   where
     same : i + 1 ≡ 1 + length (take i rows)
     same = omega (arith, length-take-le i rows (omega arith))

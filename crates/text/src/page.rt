@@ -8,7 +8,9 @@
 //
 // Its proof is one line: `adds_text refl (omega arith) (adds_next c.put_str.ensures (adds_next c.put_number.ensures c.put_byte.ensures))`, laws of
 // specs/PagedLaws.antt. A function that takes the buffer itself, `let mut page = Page { bytes: out, used: 0 }; put_x(&mut page, ..); page.used`,
-// promises `Wrote 0 (x_text ..) 22 out.old out.new result` with no proof.
+// promises `Wrote 0 (x_text ..) 22 out.old out.new result` with no proof; where it makes several calls, by `let w = (the line above).wrote in search rules`.
+//
+// Kept, and not `impl Display`: `write!` promises what it wrote only where it answers Ok, and nothing says when it does, so no text could be promised on every input.
 ghost use Rattle.std.specs.Prelude.{◌≡◌, ℕ, ◌+◌, ◌*◌, ◌≤◌, ◌<◌, ◌++◌, [], ◌∷◌, length};
 ghost use Rattle.text.specs.Paged.{Room, Adds};
 ghost use Rattle.text.specs.Printed.{decimal, number, signed, field};

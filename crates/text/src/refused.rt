@@ -8,13 +8,21 @@ ghost use Rattle.text.specs.Printed.{number, printed_refusal};
 use crate::page::Page;
 use words::refusal::Refusal;
 
+// By its number: this document's, or that of another list of refusals.
+pub fn put_refused(page: &mut Page<'_>, number: u8)
+    requires { Room 14 page.old }
+    ensures { Adds (printed_refusal number) 14 page.old page.new }
+{
+    page.put_str("refused");
+    page.put_number(number);
+    page.put_byte(b'\n');
+}
+
 pub fn put_refusal(page: &mut Page<'_>, refusal: Refusal)
     requires { Room 14 page.old }
     ensures { Adds (printed_refusal (refusal_number refusal)) 14 page.old page.new }
 {
-    page.put_str("refused");
-    page.put_number(refusal.number());
-    page.put_byte(b'\n');
+    put_refused(page, refusal.number());
 }
 
 // Its number, 0 where nothing was refused.

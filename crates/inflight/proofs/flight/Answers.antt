@@ -1,3 +1,4 @@
+use Rattle.std.proofs.Common.{rules}
 use Rattle.buffer.proofs.PrintingLaws.{long-reply, long-left, short-reply, short-left}
 use Rattle.inflight.specs.Flight.{in_flight}
 use Rattle.inflight.proofs.flight.Goals as goal
@@ -14,4 +15,6 @@ returns-clause-value c =
     let long = c.if-out-lt-LONGEST_TEXT.false in
     let text = in_flight c.args.bytes.now in
     let out = c.args.out.now in
-    (long-reply 73728 text out long c.flight_into-size.ensures, long-left 73728 text out long c.flight_into-size.ensures)
+    let w = c.put_flight.ensures.wrote in
+    let left = long-left 73728 text out long w in
+    (long-reply 73728 text out long w, search rules)
