@@ -12,7 +12,7 @@ use Rattle.tables.specs.declared.Kind.TheVariants.{Read, Write}
 use Rattle.tables.specs.declared.Row.{Row}
 use Rattle.state.specs.State.{fresh_replica, State, replica_of, view}
 use Rattle.state.specs.declared.Bench.{Bench}
-use Rattle.state.proofs.EveryLaws.{get_or-default}
+use Rattle.std.proofs.lemmas.List.{get_or_default}
 use Rattle.text.specs.Lines.{pair_text, is_blank, blank_text, row_head, row_rest, reg_text, reg_texts}
 use Rattle.text.specs.Lines.{proc_texts, store_texts, run_text, proc_text, count_text, tail_text}
 use Rattle.text.specs.Short.{ShortPairs, ShortStores}
@@ -129,7 +129,7 @@ one_reg m pairs p i below =
 
 -- what stands at a place of the first so many, whatever the default
 taken-at : {A : Type 0} (n : ℕ) (xs : List A) (i : ℕ) (d e : A) → i < length (take n xs) → get_or (take n xs) i d ≡ get_or xs i e
-taken-at n xs i d e within = get_or-take n xs i d (omega (arith, length-take n xs)) ∙ get_or-default xs i d e (omega (arith, length-take n xs))
+taken-at n xs i d e within = get_or-take n xs i d (omega (arith, length-take n xs)) ∙ get_or_default xs i d e (omega (arith, length-take n xs))
 
 pub one-proc : (n : ℕ) (replicas : List Replica) (i : ℕ) (d : Replica) → i < length (take n replicas)
     → proc_texts replicas 1 i ++ proc_line (i + 1) (get_or (take n replicas) i d) ≡ proc_texts replicas 1 (i + 1)
