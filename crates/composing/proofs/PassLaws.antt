@@ -2,8 +2,9 @@
 use Rattle.std.specs.Prelude.{ℕ, suc, ◌+◌, ◌≤◌, ◌≡◌, refl, Bool, true, false, cond, not, List, [], ◌∷◌, ◌++◌, eqb, ltb, length, Result, Ok, Err}
 use Rattle.std.proofs.Common.{sym, ap, ◌∙◌, append_assoc, append-nil, arith, add-one, length-append}
 use Rattle.words.specs.Ranges.{within}
-use Rattle.text.specs.Written.{Wrote}
-use Rattle.text.specs.WrittenLaws.{and_next, as_text, nothing}
+use Rattle.text.specs.declared.page.Page.{Page}
+use Rattle.text.specs.Paged.{Room, Adds}
+use Rattle.text.specs.PagedLaws.{adds_next, adds_nothing, adds_text}
 use Rattle.state.specs.declared.Event.{Event}
 use Rattle.writing.specs.Bytes.{event_bytes, events_bytes}
 use Rattle.script.specs.declared.Fault.{Fault}
@@ -114,16 +115,16 @@ module _ (text : List ℕ) (o : Opening) (few : o.number + length (lines o.rest.
 
 -- ---- writing the events
 
--- so much is written, up to a place, and these lines are left
-pub record Puts (to : ℕ) (all : List (List ℕ)) (out₀ out : List ℕ) (place : ℕ) (left : List (List ℕ)) : Type 0 where
+-- so much is written, and these lines are left
+pub record Puts (all : List (List ℕ)) (old new : Page) (left : List (List ℕ)) : Type 0 where
   pub done : List ℕ
-  pub wrote : Wrote to done (length done) out₀ out place
+  pub adds : Adds done (length done) old new
   pub rest : done ++ events_bytes (events_in left) ≡ events_bytes (events_in all)
 
-pub puts-start : (to : ℕ) (all : List (List ℕ)) (out : List ℕ) → to ≤ length out → Puts to all out out to all
-puts-start to all out fits = record { done = []; wrote = nothing to out fits; rest = refl }
+pub puts_start : (all : List (List ℕ)) (page : Page) → page.used ≤ length page.bytes.now → Puts all page page all
+puts_start all page fits = record { done = []; adds = adds_nothing page fits; rest = refl }
 
-module _ (to : ℕ) (all : List (List ℕ)) (out₀ out : List ℕ) (place : ℕ) (left : List (List ℕ)) (s : Puts to all out₀ out place left) where
+module _ (all : List (List ℕ)) (old new : Page) (left : List (List ℕ)) (s : Puts all old new left) where
   module _ (w : List ℕ) (rest : List (List ℕ)) (first : left ≡ w ∷ rest) where
     abbrev more : List ℕ
     more = line_bytes (line_of w)
@@ -131,14 +132,14 @@ module _ (to : ℕ) (all : List (List ℕ)) (out₀ out : List ℕ) (place : ℕ
     joined : (s.done ++ more) ++ events_bytes (events_in rest) ≡ events_bytes (events_in all)
     joined = append_assoc s.done more (events_bytes (events_in rest)) ∙ ap (λ (l : List ℕ). s.done ++ l) (bytes_next left w rest first) ∙ s.rest
 
-    pub puts_room : to + length (events_bytes (events_in all)) ≤ length out → place + length more ≤ length out
-    puts_room l = omega (arith, l, s.wrote.ends, ap length joined, length-append (s.done ++ more) (events_bytes (events_in rest)), length-append s.done more)
+    pub puts_room : Room (length (events_bytes (events_in all))) old → Room (length more) new
+    puts_room l = omega (arith, l, s.adds.wrote.ends, s.adds.long, ap length joined, length-append (s.done ++ more) (events_bytes (events_in rest)), length-append s.done more)
 
-    pub puts_next : (out' : List ℕ) (place' : ℕ) → Wrote place more (length more) out out' place' → Puts to all out₀ out' place' rest
-    puts_next out' place' v = record { done = s.done ++ more; wrote = as_text refl (omega (arith, length-append s.done more)) (and_next s.wrote v); rest = joined }
+    pub puts_next : (next : Page) → Adds more (length more) new next → Puts all old next rest
+    puts_next next v = record { done = s.done ++ more; adds = adds_text refl (omega (arith, length-append s.done more)) (adds_next s.adds v); rest = joined }
 
-  pub puts_end : left ≡ [] → Wrote to (events_bytes (events_in all)) (length (events_bytes (events_in all))) out₀ out place
-  puts_end e = as_text text-is (omega (arith, ap length text-is)) s.wrote
+  pub puts_end : left ≡ [] → Adds (events_bytes (events_in all)) (length (events_bytes (events_in all))) old new
+  puts_end e = adds_text text-is (omega (arith, ap length text-is)) s.adds
     where
       text-is : s.done ≡ events_bytes (events_in all)
       text-is = sym (append-nil s.done) ∙ sym (ap (λ (ls : List (List ℕ)). s.done ++ events_bytes (events_in ls)) e) ∙ s.rest

@@ -1,35 +1,35 @@
 // What is said of a line that is wrong.
-ghost use Rattle.std.specs.Prelude.{◌+◌, ◌≤◌, length};
-ghost use Rattle.text.specs.Written.{Wrote};
+ghost use Rattle.std.specs.Prelude.{◌≡◌, ◌+◌, ◌≤◌, length};
+ghost use Rattle.text.specs.Paged.{Room, Adds};
 ghost use Rattle.composing.specs.Complaint.{fault_text, complaint};
 
-use buffer::bytes::{NEWLINE, put_byte, put_word};
-use buffer::numbers::put_number;
 use script::Fault;
+use text::page::Page;
 
-fn put_fault(buf: &mut [u8], at: usize, fault: Fault) -> usize
-    requires { at + 40 ≤ length buf.old }
-    ensures { Wrote at (fault_text fault) 40 buf.old buf.new result }
+#[tactic(auto, unfolding(crate::specs::Complaint::fault_text))]
+fn said_of(fault: Fault) -> &'static str
+    ensures text { result.now ≡ fault_text fault }
+    ensures short { length result.now ≤ 40 }
 {
     match fault {
-        Fault::Unknown => put_word(&mut *buf, at, b": unknown word"),
-        Fault::Missing => put_word(&mut *buf, at, b": a number is missing"),
-        Fault::TooMany => put_word(&mut *buf, at, b": too many words"),
-        Fault::NotANumber => put_word(&mut *buf, at, b": not a number"),
-        Fault::TooLarge => put_word(&mut *buf, at, b": too large for its field"),
-        Fault::NoBench => put_word(&mut *buf, at, b": bench N M stands first, and only there"),
-        Fault::Processes => put_word(&mut *buf, at, b": N is not 1 to 7"),
-        Fault::Registers => put_word(&mut *buf, at, b": M is not 1 to 16"),
-        Fault::TooLong => put_word(&mut *buf, at, b": the file would pass 65,536 bytes"),
+        Fault::Unknown => ": unknown word",
+        Fault::Missing => ": a number is missing",
+        Fault::TooMany => ": too many words",
+        Fault::NotANumber => ": not a number",
+        Fault::TooLarge => ": too large for its field",
+        Fault::NoBench => ": bench N M stands first, and only there",
+        Fault::Processes => ": N is not 1 to 7",
+        Fault::Registers => ": M is not 1 to 16",
+        Fault::TooLong => ": the file would pass 65,536 bytes",
     }
 }
 
-pub fn put_complaint(buf: &mut [u8], line: usize, fault: Fault) -> usize
-    requires { 66 ≤ length buf.old }
-    ensures { Wrote 0 (complaint line fault) 66 buf.old buf.new result }
+pub fn put_complaint(page: &mut Page<'_>, line: usize, fault: Fault)
+    requires { Room 66 page.old }
+    ensures { Adds (complaint line fault) 66 page.old page.new }
 {
-    let a = put_word(&mut *buf, 0, b"line");
-    let b = put_number(&mut *buf, a, line as u64);
-    let c = put_fault(&mut *buf, b, fault);
-    put_byte(&mut *buf, c, NEWLINE)
+    page.put_str("line");
+    page.put_number(line as u64);
+    page.put_str(said_of(fault));
+    page.put_byte(b'\n');
 }

@@ -15,8 +15,9 @@ use crate::complaint::put_complaint;
 use crate::first::bench_in;
 use crate::rest::{put_script, survey};
 use script::Fault;
-use writing::file::put_head;
+use text::page::Page;
 use words::refusal::Refusal;
+use writing::file::put_head;
 
 mod complaint;
 mod first;
@@ -50,8 +51,12 @@ fn write_script(out: &mut [u8], opening: Opening<'_>, size: usize) -> Result<usi
     if out.len() < size {
         return Err(NotComposed::Short);
     }
-    let to = put_head(&mut *out, opening.n, opening.m, size);
-    put_script(&mut *out, to, opening.rest);
+    let mut page = Page {
+        bytes: out,
+        used: 0,
+    };
+    put_head(&mut page, opening.n, opening.m, size);
+    put_script(&mut page, opening.rest);
     Ok(size)
 }
 
@@ -62,7 +67,7 @@ pub fn compose(text: &[u8], out: &mut [u8]) -> Result<usize, NotComposed>
 {
     let opening = bench_in(text)?;
     let size = survey(opening.rest, opening.number + 1)?;
-    write_script(&mut *out, opening, size)
+    write_script(out, opening, size)
 }
 
 // What is said of a line that is wrong, at the front of a lent output. An output of fewer than 66 bytes is refused by 19 and left as it was.
@@ -73,6 +78,10 @@ pub fn complain(line: usize, fault: Fault, out: &mut [u8]) -> Result<usize, Refu
     if out.len() < LONGEST_COMPLAINT {
         return Err(Refusal::ShortOutput);
     }
-    let size = put_complaint(&mut *out, line, fault);
-    Ok(size)
+    let mut page = Page {
+        bytes: out,
+        used: 0,
+    };
+    put_complaint(&mut page, line, fault);
+    Ok(page.used)
 }

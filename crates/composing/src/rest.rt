@@ -1,6 +1,6 @@
 // The lines behind the bench: how many bytes they take, and the events themselves.
 ghost use Rattle.std.specs.Prelude.{◌≡◌, ◌+◌, ◌≤◌, ◌<◌, ◌^◌, length, IfOk};
-ghost use Rattle.text.specs.Written.{Wrote};
+ghost use Rattle.text.specs.Paged.{Room, Adds};
 ghost use Rattle.writing.specs.Bytes.{events_bytes};
 ghost use Rattle.script.specs.Lines.{lines};
 ghost use Rattle.script.specs.Meaning.{line_of};
@@ -8,13 +8,12 @@ ghost use Rattle.composing.specs.Passes.{surveyed, grown, line_bytes, events_in}
 ghost use Rattle.composing.specs.Script.{following};
 
 use crate::NotComposed;
+use format::file::HEAD;
 use script::marks::Lines;
 use script::meaning::line_of;
 use script::{Fault, Line};
+use text::page::Page;
 use writing::events::{put_event, size_of};
-
-// Bytes before the first event.
-const HEAD: usize = 7;
 
 const LONGEST: usize = 65536;
 
@@ -55,24 +54,21 @@ pub fn survey(text: &[u8], number: usize) -> Result<usize, NotComposed>
 }
 
 // The event on a line, if it says one.
-fn put_line(out: &mut [u8], to: usize, line: &[u8]) -> usize
-    requires { to + length (line_bytes (line_of line.now)) ≤ length out.old }
-    ensures { Wrote to (line_bytes (line_of line.now)) (length (line_bytes (line_of line.now))) out.old out.new result }
+fn put_line(page: &mut Page<'_>, line: &[u8])
+    requires { Room (length (line_bytes (line_of line.now))) page.old }
+    ensures { Adds (line_bytes (line_of line.now)) (length (line_bytes (line_of line.now))) page.old page.new }
 {
-    match line_of(line) {
-        Ok(Line::Does(event)) => put_event(&mut *out, to, event),
-        _ => to,
+    if let Ok(Line::Does(event)) = line_of(line) {
+        put_event(page, event);
     }
 }
 
 // The events of these lines, one after another.
-pub fn put_script(out: &mut [u8], to: usize, text: &[u8]) -> usize
-    requires { to + length (events_bytes (events_in (lines text.now))) ≤ length out.old }
-    ensures { Wrote to (events_bytes (events_in (lines text.now))) (length (events_bytes (events_in (lines text.now)))) out.old out.new result }
+pub fn put_script(page: &mut Page<'_>, text: &[u8])
+    requires { Room (length (events_bytes (events_in (lines text.now)))) page.old }
+    ensures { Adds (events_bytes (events_in (lines text.now))) (length (events_bytes (events_in (lines text.now)))) page.old page.new }
 {
-    let mut place = to;
     for next in (Lines { rest: text }) {
-        place = put_line(&mut *out, place, next);
+        put_line(page, next);
     }
-    place
 }

@@ -38,7 +38,7 @@ own-count : (rows : List Row) → length (own_rows rows) ≡ length rows
 own-count rows = length-map (operations_of rows) (as_row bits_of) ∙ length-map rows operation_of
 
 -- the three parts, with their counts
-parts_are : (rows : List Row) (order : List ℕ) (used count : ℕ) → used ≡ length rows → count ≡ length order
+pub parts_are : (rows : List Row) (order : List ℕ) (used count : ℕ) → used ≡ length rows → count ≡ length order
     → head_text used count ++ (rows_text rows ++ order_text count order) ≡ file_of rows order
 unfolding file_of history_file
 parts_are rows order used count eu ec =

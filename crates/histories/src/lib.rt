@@ -1,39 +1,77 @@
 // The history file of a bench of ours, written into a lent buffer: what `verdicts` judges.
 #![tactic(auto)]
 
-ghost use Rattle.std.specs.Prelude.{◌+◌, ◌*◌, ◌≤◌, length, take};
-ghost use Rattle.text.specs.Written.{Wrote};
-ghost use Rattle.histories.specs.OwnFile.{rows_text, Recorded};
+ghost use Rattle.std.specs.Prelude.{◌+◌, ◌*◌, ◌≤◌, length};
+ghost use Rattle.text.specs.Paged.{Room, Adds};
+ghost use Rattle.verdicts.specs.File.{two, numbers_bytes};
+ghost use Rattle.histories.specs.OwnFile.{head_text, rows_text, file_of, Recorded};
 
-use crate::ends::{put_head, put_order};
 use crate::rows::put_row;
-use tables::{Row, row_at};
+use tables::Row;
+use text::page::Page;
+use verdicts::rows::{NUMBER_SIZE, ROW_SIZE, VERSION};
 
-mod bytes;
-pub mod ends;
-pub mod rows;
+mod rows;
 
-// The bytes of the first `used` rows.
-pub fn put_rows(buf: &mut [u8], at: usize, rows: &[Row], used: u16) -> usize
-    requires { (at + 12 * used ≤ length buf.old) × ((used ≤ length rows.now) × (used ≤ 1024)) }
-    ensures { Wrote at (rows_text (take used rows.now)) (12 * used) buf.old buf.new result }
+// Version and the two counts, which the length field counts beside the rows and the row numbers.
+const FIXED_SIZE: usize = 1 + NUMBER_SIZE + NUMBER_SIZE;
+
+// A count or a row number, big-endian.
+fn put_number(page: &mut Page<'_>, n: u16)
+    requires { Room 2 page.old }
+    ensures { Adds (two n) 2 page.old page.new }
 {
-    let mut next = at;
-    let mut i = 0;
-    while i < used {
-        let row = row_at(rows, i as usize);
-        next = put_row(&mut *buf, next, row);
-        i = i + 1;
-    }
-    next
+    page.put_bytes(&n.to_be_bytes());
 }
 
-// The whole file, at the front of the buffer: the first `used` rows, and the first `count` numbers of the order.
-pub fn put_history(buf: &mut [u8], rows: &[Row], used: u16, order: &[u16], count: u16) -> usize
-    requires { (14345 ≤ length buf.old) × ((used ≤ length rows.now) × ((used ≤ 1024) × ((count ≤ length order.now) × (count ≤ 1024)))) }
-    ensures { Recorded (take used rows.now) (take count order.now) buf.old buf.new result }
+// The length, the version and the count of rows.
+fn put_head(page: &mut Page<'_>, rows: usize, numbers: usize)
+    requires { Room 7 page.old × ((rows ≤ 1024) × (numbers ≤ 1024)) }
+    ensures { Adds (head_text rows numbers) 7 page.old page.new }
 {
-    let a = put_head(&mut *buf, used, count);
-    let b = put_rows(&mut *buf, a, rows, used);
-    put_order(&mut *buf, b, order, count)
+    let size = FIXED_SIZE + ROW_SIZE * rows + NUMBER_SIZE * numbers;
+    page.put_bytes(&(size as u32).to_be_bytes());
+    page.put_byte(VERSION);
+    put_number(page, rows as u16);
+}
+
+fn put_rows(page: &mut Page<'_>, rows: &[Row])
+    requires { Room (12 * length rows.now) page.old }
+    ensures { Adds (rows_text rows.now) (12 * length rows.now) page.old page.new }
+{
+    for row in rows {
+        put_row(page, *row);
+    }
+}
+
+fn put_numbers(page: &mut Page<'_>, order: &[u16])
+    requires { Room (2 * length order.now) page.old }
+    ensures { Adds (numbers_bytes order.now) (2 * length order.now) page.old page.new }
+{
+    for number in order {
+        put_number(page, *number);
+    }
+}
+
+fn put_file(page: &mut Page<'_>, rows: &[Row], order: &[u16])
+    requires { Room 14345 page.old × ((length rows.now ≤ 1024) × (length order.now ≤ 1024)) }
+    ensures { Adds (file_of rows.now order.now) 14345 page.old page.new }
+{
+    put_head(page, rows.len(), order.len());
+    put_rows(page, rows);
+    put_number(page, order.len() as u16);
+    put_numbers(page, order);
+}
+
+// The whole file, at the front of the buffer; how long it is.
+pub fn put_history(out: &mut [u8], rows: &[Row], order: &[u16]) -> usize
+    requires { (14345 ≤ length out.old) × ((length rows.now ≤ 1024) × (length order.now ≤ 1024)) }
+    ensures { Recorded rows.now order.now out.old out.new result }
+{
+    let mut page = Page {
+        bytes: out,
+        used: 0,
+    };
+    put_file(&mut page, rows, order);
+    page.used
 }

@@ -46,12 +46,11 @@ module _ (bytes : List ℕ) (r : Stepped) (rows : List Row) (s : Stopped bytes r
       ap (λ (t : State). t.rows)
       (holds-view (ran_file bytes).state r.bench (laid_messages (ran_file bytes).state) rows (s.bench, refl, s.laid))
 
-  -- what the file asks
-  pub file-asks : (u : ℕ) → u ≡ r.bench.rows → (room : ℕ) → 14345 ≤ room → (count places : ℕ) → count ≤ places → count ≤ 1024
-      → (14345 ≤ room) × ((u ≤ length rows) × ((u ≤ 1024) × ((count ≤ places) × (count ≤ 1024))))
-  file-asks u e room l count places c d =
+  -- the rows that are used are rows of the table, and few
+  pub used-rows_fit : (u : ℕ) → u ≡ r.bench.rows → (u ≤ length rows) × (u ≤ 1024)
+  used-rows_fit u e =
       let few : u ≤ 1024 = omega (arith, e, rows_few bytes r rows s) in
-      (l, (omega (arith, few, rows_long bytes r rows s), (few, (c, d))))
+      (omega (arith, few, rows_long bytes r rows s), few)
 
   pub file-written : (u count : ℕ) (listing : List ℕ) → u ≡ r.bench.rows → count ≡ length (order_of (take u rows)) → listing ≡ order_of (take u rows) ++ replicate (1024 - length (order_of (take u rows))) 0
       → (xs ys : List ℕ) (end : ℕ) → Recorded (take u rows) (take count listing) xs ys end → Wrote 0 (recorded bytes) 14345 xs ys end

@@ -29,7 +29,11 @@ fn history_into(out: &mut [u8], listing: &mut [u16], bytes: &[u8]) -> usize
     if parts::is_begun(ran) {
         let used = parts::rows_of(ran);
         let count = fill_order(&rows, used, &mut *listing);
-        return put_history(&mut *out, &rows, used, &*listing, count);
+        return put_history(
+            &mut *out,
+            &rows[..used as usize],
+            &listing[..count as usize],
+        );
     }
     put_refusal(&mut *out, 0, refusal)
 }

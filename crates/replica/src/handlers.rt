@@ -98,7 +98,7 @@ impl Replica {
     }
 
     pub fn response_received(
-        self,
+        mut self,
         n: u8,
         register: u8,
         sender: Sender,
@@ -138,7 +138,7 @@ impl Replica {
         }
     }
 
-    pub fn ack_received(self, n: u8, sender: Sender) -> Result<Handled, Refusal>
+    pub fn ack_received(mut self, n: u8, sender: Sender) -> Result<Handled, Refusal>
         ensures { answer self result ≡ ack_received self n sender.from sender.time sender.rid }
     {
         refusals::check_ack(self, n, sender)?;

@@ -35,13 +35,20 @@ impl<'a> Page<'a> {
         self.used += 1;
     }
 
+    pub fn put_bytes(&mut self, bytes: &[u8])
+        requires { Room (length bytes.now) self.old }
+        ensures { Adds bytes.now (length bytes.now) self.old self.new }
+    {
+        let end = self.used + bytes.len();
+        self.bytes[self.used..end].copy_from_slice(bytes);
+        self.used = end;
+    }
+
     pub fn put_str(&mut self, text: &str)
         requires { Room (length text.now) self.old }
         ensures { Adds text.now (length text.now) self.old self.new }
     {
-        let end = self.used + text.len();
-        self.bytes[self.used..end].copy_from_slice(text.as_bytes());
-        self.used = end;
+        self.put_bytes(text.as_bytes());
     }
 
     pub fn put_decimal(&mut self, n: u64)

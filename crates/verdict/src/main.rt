@@ -35,9 +35,8 @@ fn main(rt: HostRuntime) -> io::Result<()> {
     }
     let mut bytes = [0u8; BYTES];
     let read = input::read_full(&mut rt.stdin(), &mut bytes)?;
-    let number = verdicts::verdict(&bytes[..read]);
-    if number == 0 {
-        return say(&rt, b"accepted\n");
+    match verdicts::verdict(&bytes[..read]) {
+        Ok(()) => say(&rt, b"accepted\n"),
+        Err(fault) => refuse(&rt, fault.number()),
     }
-    refuse(&rt, number)
 }

@@ -1,5 +1,8 @@
 pub mod Acceptance
 pub mod Examples
+pub mod ByteLaws
+pub mod CutLaws
+pub mod FaultLaws
 pub mod RowLaws
 pub mod NumberLaws
 pub mod NamedLaws

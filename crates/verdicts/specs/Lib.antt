@@ -5,6 +5,10 @@ pub mod Refusals
 -- What the contracts cite: the verdict as it is computed; and operations of ours as rows.
 pub mod Verdict
 pub mod Sized
+pub mod Faults
+pub mod Rows
+pub mod Histories
+pub mod Knowing
 pub mod Operations
 -- Laws: each test tells exactly what its number says.
 pub mod Tells

@@ -1,8 +1,14 @@
 // 22: the file's layout and its limits. Length of what follows, version, count of rows, rows, count of row numbers, row numbers.
-ghost use Rattle.std.specs.Prelude.{◌≡◌, ◌&&◌, ◌||◌, ◌+◌, ◌-◌, ◌*◌, ◌≤◌, eqb, leb, length};
-ghost use Rattle.verdicts.specs.Verdict.{sized, laid, rows_from, zeros};
+ghost use Rattle.std.specs.Prelude.{◌≡◌, true, false, ◌+◌, ◌≤◌, length, MatchOption, MatchResult};
+ghost use Rattle.words.specs.Ranges.{within};
+ghost use Rattle.verdicts.specs.Verdict.{half_at, word_at, sized, laid, named, zeros};
+ghost use Rattle.verdicts.specs.Rows.{told, rows_of, numbers_of, number_in};
+ghost use Rattle.verdicts.specs.Histories.{Cut, Reads, is_history};
+ghost use Rattle.verdicts.specs.declared.faults.Fault.TheVariants.{NoFile};
 
-use crate::numbers::{half_at, wide, word_at};
+use crate::faults::Fault;
+use crate::history::History;
+use crate::rows::{NUMBER_SIZE, ROW_SIZE, Row, VERSION};
 use words::limits::ROW_PLACES;
 
 const SHORTEST: usize = 9;
@@ -11,84 +17,97 @@ const LENGTH_SIZE: usize = 4;
 
 const VERSION_AT: usize = 4;
 
-const VERSION: u8 = 1;
+const ROW_COUNT_AT: usize = 5;
 
-pub const ROW_COUNT_AT: usize = 5;
-
-pub const ROWS_AT: usize = 7;
-
-pub const ROW_SIZE: usize = 12;
-
-// Bytes of a count, and of a row number.
-pub const NUMBER_SIZE: usize = 2;
+const ROWS_AT: usize = 7;
 
 // At most so many rows, and so many row numbers.
 const MOST: usize = ROW_PLACES;
 
-// Where a row has its kind, its register, its value and its mark of completion; its process comes first.
-pub const KIND: usize = 1;
-
-pub const REGISTER: usize = 2;
-
-pub const VALUE: usize = 3;
-
-pub const COMPLETE: usize = 11;
-
-pub const READ: u8 = 1;
-
-pub const WRITE: u8 = 2;
-
 // Processes and registers are any byte.
 pub const BYTES: usize = 256;
 
-// Length, version and the two counts, with no byte left over.
-pub fn is_sized(bytes: &[u8]) -> bool
-    ensures { result ≡ sized bytes.now }
+fn half_at(bytes: &[u8], at: usize) -> usize
+    requires { at + 2 ≤ length bytes.now }
+    ensures { result ≡ half_at bytes.now at }
+{
+    usize::from(u16::from_be_bytes([bytes[at], bytes[at + 1]]))
+}
+
+// A row number.
+pub fn number_of(bytes: &[u8; NUMBER_SIZE]) -> usize
+    ensures { result ≡ number_in bytes.now }
+{
+    half_at(bytes, 0)
+}
+
+fn word_at(bytes: &[u8], at: usize) -> usize
+    requires { at + 4 ≤ length bytes.now }
+    ensures { result ≡ word_at bytes.now at }
+{
+    u32::from_be_bytes([bytes[at], bytes[at + 1], bytes[at + 2], bytes[at + 3]]) as usize
+}
+
+// The rows and the row numbers of a file that has its length, its version and its two counts, with no byte left over.
+fn cut(bytes: &[u8]) -> Option<(&[[u8; ROW_SIZE]], &[[u8; NUMBER_SIZE]])>
+    ensures { MatchOption result (sized bytes.now ≡ false) (λ parts. Cut bytes.now parts.0.now parts.1.now) }
 {
     let size = bytes.len();
     if size < SHORTEST {
-        return false;
+        return None;
     }
-    let rows = half_at(bytes, ROW_COUNT_AT);
-    let opens = (word_at(bytes, 0) == size - LENGTH_SIZE)
-        & ((bytes[VERSION_AT] == VERSION) & (rows <= MOST));
-    let at = ROWS_AT + ROW_SIZE * rows;
+    let count = half_at(bytes, ROW_COUNT_AT);
+    let at = ROWS_AT + ROW_SIZE * count;
     if size < at + NUMBER_SIZE {
-        return false;
+        return None;
     }
     let numbers = half_at(bytes, at);
-    opens & ((numbers <= MOST) & (at + NUMBER_SIZE + NUMBER_SIZE * numbers == size))
-}
-
-fn is_formed(kind: u8, complete: u8) -> bool
-    ensures { result ≡ ((eqb kind 1 || eqb kind 2) && leb complete 1) }
-{
-    ((kind == READ) | (kind == WRITE)) & (complete <= 1)
-}
-
-// The mark of a process after a row of its: 1 once it has an unfinished one.
-fn mark_after(complete: u8) -> u8
-    ensures { result ≡ 1 - complete }
-{
-    if complete == 0 { 1 } else { 0 }
+    let opens = (word_at(bytes, 0) == size - LENGTH_SIZE)
+        & ((bytes[VERSION_AT] == VERSION) & (count <= MOST));
+    let whole = opens & ((numbers <= MOST) & (at + NUMBER_SIZE + NUMBER_SIZE * numbers == size));
+    if !whole {
+        return None;
+    }
+    let (rows, _) = bytes[ROWS_AT..at].as_chunks();
+    let (order, _) = bytes[at + NUMBER_SIZE..].as_chunks();
+    Some((rows, order))
 }
 
 // Each row has one of two kinds and is completed or not, and none comes after an unfinished one of its process.
-pub fn rows_laid(bytes: &[u8], count: usize) -> bool
-    requires { 7 + 12 * count ≤ length bytes.now }
-    ensures { result ≡ laid (zeros 256) (rows_from bytes.now 7 count) }
+#[tactic(auto, unfolding(crate::specs::Verdict::zeros))]
+fn is_laid(rows: &[[u8; ROW_SIZE]]) -> bool
+    ensures { result ≡ laid (zeros 256) (rows_of rows.now) }
 {
     let mut ended = [0u8; BYTES];
-    let mut ok = true;
-    let mut at = ROWS_AT;
-    let mut left = count;
-    while 0 < left {
-        let process = wide(bytes[at]);
-        let complete = bytes[at + COMPLETE];
-        ok = ok & (is_formed(bytes[at + KIND], complete) & (ended[process] == 0));
-        ended[process] = mark_after(complete);
-        at += ROW_SIZE;
-        left -= 1;
+    for bytes in rows {
+        let Ok(row) = Row::try_from(bytes) else {
+            return false;
+        };
+        let process = usize::from(row.process);
+        if ended[process] != 0 {
+            return false;
+        }
+        ended[process] = u8::from(!row.complete);
     }
-    ok
+    true
+}
+
+impl<'a> History<'a> {
+    pub fn read(bytes: &'a [u8]) -> Result<History<'a>, Fault>
+        ensures { MatchResult result (λ history. Reads bytes.now history) (λ fault. (fault ≡ NoFile) × (is_history bytes.now ≡ false)) }
+    {
+        let (rows, order) = cut(bytes).ok_or(Fault::NoFile)?;
+        if !is_laid(rows) {
+            return Err(Fault::NoFile);
+        }
+        Ok(History { rows, order })
+    }
+
+    // The row of a number.
+    pub fn row(&self, number: usize) -> Row
+        requires { within number (length self.now.rows.now) ≡ true }
+        ensures { told result ≡ named (rows_of self.now.rows.now) number }
+    {
+        Row::try_from(&self.rows[number - 1]).unwrap()
+    }
 }

@@ -1,133 +1,125 @@
-// 23 to 27: the passes over the order's row numbers, and over the rows. The numbers begin at `from`, and there are `count`; the file has `rows` rows.
-ghost use Rattle.std.specs.Prelude.{◌≡◌, true, cond, ◌&&◌, ◌||◌, ◌+◌, ◌-◌, ◌*◌, ◌≤◌, ◌<◌, length};
-ghost use Rattle.words.specs.Ranges.{within};
-ghost use Rattle.verdicts.specs.Verdict.{half_at, rows_from, numbers_from, inside, fresh, marked, unfinished_read, missing, rising, reading, zeros};
+// 23 to 27: the passes over the order's row numbers, and over the rows.
+ghost use Rattle.std.specs.Prelude.{◌≡◌, false, MatchResult};
+ghost use Rattle.verdicts.specs.Verdict.{unfinished_read, missing, rising, reading, zeros, judged_known};
+ghost use Rattle.verdicts.specs.Rows.{rows_of, numbers_of};
+ghost use Rattle.verdicts.specs.Faults.{faulted};
+ghost use Rattle.verdicts.specs.Knowing.{Knows, is_fresh};
+ghost use Rattle.verdicts.specs.declared.faults.Fault.TheVariants.{NumberWrong};
 
-use crate::layout::{
-    BYTES, COMPLETE, KIND, NUMBER_SIZE, READ, REGISTER, ROW_SIZE, ROWS_AT, VALUE, WRITE,
-};
-use crate::numbers::{half_at, value_at, wide};
+use crate::faults::Fault;
+use crate::history::{History, Known};
+use crate::layout::{BYTES, number_of};
+use crate::rows::Kind;
+use words::limits::ROW_PLACES;
+
+// A mark for each row number; place 0 is not used.
+pub const MARKS: usize = ROW_PLACES + 1;
+
+const UNSEEN: u8 = 0;
 
 const SEEN: u8 = 1;
 
-const DONE: u8 = 1;
-
-fn is_within(number: usize, rows: usize) -> bool
-    ensures { result ≡ within number rows }
-{
-    (number != 0) & (number <= rows)
-}
-
-// Where the row begins whose number stands at a place.
-fn row_named(bytes: &[u8], at: usize) -> usize
-    requires { (at + 2 ≤ length bytes.now) × ((1 ≤ half_at bytes.now at) × (7 + 12 * half_at bytes.now at ≤ length bytes.now)) }
-    ensures { (result ≡ 7 + 12 * (half_at bytes.now at - 1)) × (result + 12 ≤ length bytes.now) }
-{
-    ROWS_AT + ROW_SIZE * (half_at(bytes, at) - 1)
-}
-
-// 23: each number is a row's and comes once. Each is marked in the table.
-pub fn all_fresh(bytes: &[u8], from: usize, count: usize, rows: usize, seen: &mut [u8]) -> bool
-    requires { (from + 2 * count ≤ length bytes.now) × (rows < length seen.old) }
-    ensures { (result ≡ fresh rows seen.old (numbers_from bytes.now from count)) × (result ≡ true → seen.new ≡ marked seen.old (numbers_from bytes.now from count)) }
-{
-    let mut at = from;
-    let mut left = count;
-    while 0 < left {
-        let number = half_at(bytes, at);
-        if !is_within(number, rows) {
-            return false;
+impl<'a> History<'a> {
+    // 23: each number is a row's and comes once. Each is marked in the table.
+    pub fn known(self, seen: &mut [u8; MARKS]) -> Result<Known<'a>, Fault>
+        ensures { MatchResult result (λ known. Knows self.entry seen.old known seen.new) (λ fault. (fault ≡ NumberWrong) × (is_fresh self.entry seen.old ≡ false)) }
+    {
+        for bytes in self.order {
+            let number = number_of(bytes);
+            if !(1..=self.rows.len()).contains(&number) {
+                return Err(Fault::NumberWrong);
+            }
+            if seen[number] != UNSEEN {
+                return Err(Fault::NumberWrong);
+            }
+            seen[number] = SEEN;
         }
-        if seen[number] != 0 {
-            return false;
+        Ok(Known { history: self })
+    }
+}
+
+impl<'a> Known<'a> {
+    // 24: an unfinished read is named.
+    fn names_unfinished(&self) -> bool
+        ensures { result ≡ unfinished_read (rows_of self.now.history.rows.now) (numbers_of self.now.history.order.now) }
+    {
+        for bytes in self.history.order {
+            let row = self.history.row(number_of(bytes));
+            if row.kind == Kind::Read && !row.complete {
+                return true;
+            }
         }
-        seen[number] = SEEN;
-        at += NUMBER_SIZE;
-        left -= 1;
+        false
     }
-    true
-}
 
-// 24: an unfinished read is named.
-pub fn names_unfinished(bytes: &[u8], from: usize, count: usize, rows: usize) -> bool
-    requires { (from + 2 * count ≤ length bytes.now) × ((7 + 12 * rows ≤ length bytes.now) × (inside rows (numbers_from bytes.now from count) ≡ true)) }
-    ensures { result ≡ unfinished_read (rows_from bytes.now 7 rows) (numbers_from bytes.now from count) }
-{
-    let mut found = false;
-    let mut at = from;
-    let mut left = count;
-    while 0 < left {
-        let row = row_named(bytes, at);
-        found = found | ((bytes[row + KIND] == READ) & (bytes[row + COMPLETE] == 0));
-        at += NUMBER_SIZE;
-        left -= 1;
+    // 25: a completed row is not marked in the table.
+    fn misses_row(&self, seen: &[u8; MARKS]) -> bool
+        ensures { result ≡ missing seen.now 1 (rows_of self.now.history.rows.now) }
+    {
+        for number in 1..=self.history.rows.len() {
+            let row = self.history.row(number);
+            if row.complete & (seen[number] == UNSEEN) {
+                return true;
+            }
+        }
+        false
     }
-    found
-}
 
-// 25: a completed row is not marked in the table.
-pub fn misses_row(bytes: &[u8], rows: usize, seen: &[u8]) -> bool
-    requires { (7 + 12 * rows ≤ length bytes.now) × (rows < length seen.now) }
-    ensures { result ≡ missing seen.now 1 (rows_from bytes.now 7 rows) }
-{
-    let mut found = false;
-    let mut at = ROWS_AT;
-    let mut number = 1;
-    let mut left = rows;
-    while 0 < left {
-        found = found | ((bytes[at + COMPLETE] == DONE) & (seen[number] == 0));
-        at += ROW_SIZE;
-        number += 1;
-        left -= 1;
+    // 26: row numbers of a process rise along the order.
+    #[tactic(auto, unfolding(crate::specs::Verdict::zeros))]
+    fn rises(&self) -> bool
+        ensures { result ≡ rising (rows_of self.now.history.rows.now) (zeros 256) (numbers_of self.now.history.order.now) }
+    {
+        let mut last = [0usize; BYTES];
+        for bytes in self.history.order {
+            let number = number_of(bytes);
+            let process = usize::from(self.history.row(number).process);
+            if last[process] >= number {
+                return false;
+            }
+            last[process] = number;
+        }
+        true
     }
-    found
-}
 
-// 26: row numbers of a process rise along the order.
-pub fn all_rise(bytes: &[u8], from: usize, count: usize, rows: usize) -> bool
-    requires { (from + 2 * count ≤ length bytes.now) × ((7 + 12 * rows ≤ length bytes.now) × (inside rows (numbers_from bytes.now from count) ≡ true)) }
-    ensures { result ≡ rising (rows_from bytes.now 7 rows) (zeros 256) (numbers_from bytes.now from count) }
-{
-    let mut last = [0usize; BYTES];
-    let mut ok = true;
-    let mut at = from;
-    let mut left = count;
-    while 0 < left {
-        let number = half_at(bytes, at);
-        let process = wide(bytes[row_named(bytes, at)]);
-        ok = ok & (last[process] < number);
-        last[process] = number;
-        at += NUMBER_SIZE;
-        left -= 1;
+    // 27: each read has the value that its register holds.
+    #[tactic(auto, unfolding(crate::specs::Verdict::zeros))]
+    fn holds(&self) -> bool
+        ensures { result ≡ reading (rows_of self.now.history.rows.now) (zeros 256) (numbers_of self.now.history.order.now) }
+    {
+        let mut held = [0u64; BYTES];
+        for bytes in self.history.order {
+            let row = self.history.row(number_of(bytes));
+            let register = usize::from(row.register);
+            match row.kind {
+                Kind::Write => held[register] = row.value,
+                Kind::Read => {
+                    if held[register] != row.value {
+                        return false;
+                    }
+                }
+            }
+        }
+        true
     }
-    ok
-}
 
-// What a register holds after a row of its.
-fn after(writes: bool, value: u64, held: u64) -> u64
-    ensures { result ≡ cond writes value held }
-{
-    if writes { value } else { held }
-}
-
-// 27: each read has the value that its register holds.
-pub fn all_hold(bytes: &[u8], from: usize, count: usize, rows: usize) -> bool
-    requires { (from + 2 * count ≤ length bytes.now) × ((7 + 12 * rows ≤ length bytes.now) × (inside rows (numbers_from bytes.now from count) ≡ true)) }
-    ensures { result ≡ reading (rows_from bytes.now 7 rows) (zeros 256) (numbers_from bytes.now from count) }
-{
-    let mut held = [0u64; BYTES];
-    let mut ok = true;
-    let mut at = from;
-    let mut left = count;
-    while 0 < left {
-        let row = row_named(bytes, at);
-        let register = wide(bytes[row + REGISTER]);
-        let value = value_at(bytes, row + VALUE);
-        let writes = bytes[row + KIND] == WRITE;
-        ok = ok & (writes | (value == held[register]));
-        held[register] = after(writes, value, held[register]);
-        at += NUMBER_SIZE;
-        left -= 1;
+    // 24 to 27, with the table of what stands in the order.
+    #[tactic(auto, unfolding(crate::specs::Verdict::judged_known))]
+    pub fn judge(&self, seen: &[u8; MARKS]) -> Result<(), Fault>
+        ensures { faulted result ≡ judged_known seen.now (rows_of self.now.history.rows.now) (numbers_of self.now.history.order.now) }
+    {
+        if self.names_unfinished() {
+            return Err(Fault::ReadNamed);
+        }
+        if self.misses_row(seen) {
+            return Err(Fault::RowMissing);
+        }
+        if !self.rises() {
+            return Err(Fault::SequenceBroken);
+        }
+        if !self.holds() {
+            return Err(Fault::ReadWrong);
+        }
+        Ok(())
     }
-    ok
 }

@@ -6,7 +6,7 @@ ghost use Rattle.words.specs.Limits.{most_rows};
 use crate::limits::{MOST_RID, MOST_TIME, PROCESSES, ROWS};
 use crate::{Pair, Sender, Stamp};
 
-// A number from 1 to `most`.
+// A number from 1 to `most`. A name over `contains`, as `row_fits` is: the contracts above cite `within`, and not a range.
 pub fn is_within(x: u8, most: u8) -> bool
     ensures { result ≡ within x most }
 {

@@ -1,3 +1,5 @@
+pub mod BigEndianLaws
+pub mod EventLaws
 pub mod EventsLaws
 pub mod FrontLaws
 pub mod NumberLaws

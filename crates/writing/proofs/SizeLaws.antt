@@ -10,6 +10,10 @@ pub word_size : (k : ℕ) → length (word_bytes k) ≡ 4
 unfolding word_bytes
 word_size k = refl
 
+pub value_size : (v : ℤ) → length (value_bytes v) ≡ 8
+unfolding value_bytes word_bytes
+value_size v = refl
+
 pub read-size : (p : Pid) (x : ℕ) → length (event_bytes (Read p x)) ≡ 3
 unfolding event_bytes
 read-size p x = refl

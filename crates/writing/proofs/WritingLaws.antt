@@ -1,19 +1,22 @@
 -- What the writer replies and leaves, from the size of the file alone: a file that no number refuses has room, and its head and its events, written one after the other,
 -- are the whole file.
-use Rattle.std.specs.Prelude.{ℕ, ◌+◌, ◌-◌, ◌≤◌, ◌≡◌, refl, Bool, true, false, not, eqb, ltb}
+use Rattle.std.specs.Prelude.{ℕ, ◌+◌, ◌-◌, ◌≤◌, ◌≡◌, refl, Bool, true, false, not, eqb, ltb, Err}
 use Rattle.std.proofs.Math.Path.{sym, ap}
-use Rattle.std.proofs.Common.{◌∙◌, true≢false, arith, length-append, ltb-false}
+use Rattle.std.proofs.Common.{◌∙◌, true≢false, arith, length-append, ltb-false, ne_eqb}
 use Rattle.std.proofs.Math.Bool.{cond}
 use mathlib.Core.List.{List, [], ◌∷◌, ◌++◌, append_assoc}
 use Rattle.std.proofs.Math.ListN.{length}
+use Rattle.words.specs.declared.refusal.Refusal.{Refusal}
 use Rattle.words.specs.Ranges.{within}
+use Rattle.words.specs.Refusals.{number}
+use Rattle.words.proofs.RefusalLaws.{number-some}
 use Rattle.tables.specs.Tables.{laid_at}
 use Rattle.text.specs.Written.{Wrote}
 use Rattle.text.specs.WrittenLaws.{and_next}
 use Rattle.text.specs.LaidLaws.{laid-length}
 use Rattle.state.specs.declared.Event.{Event}
 use Rattle.writing.specs.Bytes.{word_bytes, events_bytes, behind_length, file_bytes}
-use Rattle.writing.specs.Writing.{write_refusal, filed, write_reply, write_left}
+use Rattle.writing.specs.Writing.{write_refusal, filed, filed_as, write_reply, write_left}
 use Rattle.writing.proofs.SizeLaws.{word_size, file-size}
 
 pub replies : (n m : ℕ) (events : List Event) (room size : ℕ) → size ≡ 7 + length (events_bytes events) → write_reply n m events room ≡ filed (write_refusal n m size room) size
@@ -46,6 +49,19 @@ passed n m size room e =
       short = ltb-false 65536 size held.1.1.0;
       fits = ltb-false room size held.1.1.1;
     }
+
+pub passes : (n m size room : ℕ) → 0 ≡ write_refusal n m size room → Passed n m size room
+passes n m size room e = passed n m size room (ap (λ k. eqb k 0) (sym e))
+
+some-number : (refusal : Refusal) → eqb (number refusal) 0 ≡ false
+some-number refusal = ne_eqb (number refusal) 0 (number-some refusal)
+
+pub refuses : (n m size room : ℕ) (refusal : Refusal) → number refusal ≡ write_refusal n m size room
+    → (filed_as (Err refusal) ≡ filed (write_refusal n m size room) size) × (eqb (write_refusal n m size room) 0 ≡ false)
+refuses n m size room refusal e = (
+  ap (λ (t : Bool). record { refusal = number refusal; size = cond t size 0 }) (sym (some-number refusal)) ∙ ap (λ k. filed k size) e,
+  sym (ap (λ k. eqb k 0) e) ∙ some-number refusal,
+)
 
 pub head-size : (size n m : ℕ) → length (word_bytes (size - 4) ++ (1 ∷ (n ∷ (m ∷ [])))) ≡ 7
 head-size size n m = omega (arith, length-append (word_bytes (size - 4)) (1 ∷ (n ∷ (m ∷ []))), word_size (size - 4))

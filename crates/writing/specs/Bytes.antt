@@ -22,8 +22,8 @@ event_bytes (Crash p) = 4 ∷ (p.0 ∷ [])
 event_bytes (Lose k) = 5 ∷ word_bytes k
 
 -- what stands past the end of a list of events; nothing reads it
-abbrev pub no_event : Event
-no_event = Deliver 0
+abbrev pub zero_event : Event
+zero_event = Read (record { 0 = 0 }) 0
 
 abbrev pub events_bytes : List Event → List ℕ
 events_bytes [] = []

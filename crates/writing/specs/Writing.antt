@@ -1,9 +1,10 @@
 -- What the writer replies, and what it leaves in the lent output: document 02, "Write schedules too".
-use Rattle.std.specs.Prelude.{ℕ, cond, not, List, eqb, ltb, length}
+use Rattle.std.specs.Prelude.{ℕ, cond, not, List, eqb, ltb, length, Result, Ok, Err}
 use Rattle.words.specs.Ranges.{within}
 use Rattle.tables.specs.Tables.{laid_at}
 use Rattle.state.specs.declared.Event.{Event}
-use Rattle.writing.specs.declared.Filed.{Filed}
+use Rattle.words.specs.declared.refusal.Refusal.{Refusal}
+use Rattle.words.specs.Refusals.{number}
 use Rattle.writing.specs.Bytes.{file_bytes}
 
 -- the first that holds, of a file of so many bytes and an output of so many: 4, 5, 1, 19; 0 if none
@@ -14,9 +15,19 @@ write_refusal n m size room =
     (cond (ltb 65536 size) 1
     (cond (ltb room size) 19 0)))
 
+-- the reply: the number of refusal, 0 if the file was written, and how many bytes the file has
+pub record Filed : Type 0 where
+  pub refusal : ℕ
+  pub size : ℕ
+
 -- a refused file has no bytes
 abbrev pub filed : ℕ → ℕ → Filed
 filed refusal size = record { refusal = refusal; size = cond (eqb refusal 0) size 0 }
+
+-- what the code replies, by number
+abbrev pub filed_as : Result ℕ Refusal → Filed
+filed_as (Ok size) = record { refusal = 0; size = size }
+filed_as (Err refusal) = record { refusal = number refusal; size = 0 }
 
 unfoldable pub write_reply : ℕ → ℕ → List Event → ℕ → Filed
 write_reply n m events room =

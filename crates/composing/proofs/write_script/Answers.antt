@@ -1,3 +1,4 @@
+use Rattle.std.proofs.Common.{rules}
 use Rattle.script.specs.Lines.{lines}
 use Rattle.composing.specs.Passes.{events_in}
 use Rattle.composing.proofs.ComposeLaws.{too_short, written_all}
@@ -11,5 +12,7 @@ returns-then-out-size c =
 pub returns : goal.returns
 returns c =
     let o = c.args.opening in
-    written_all o.n o.m c.requires.in_range (events_in (lines o.rest.now)) c.args.out.now c.args.size c.requires.size_value.0 c.requires.size_value.1 c.if-out-size.false c.put_head-to.new.buf
-    c.put_script.new.out c.put_head-to.result c.put_script.result c.put_head-to.ensures c.put_script.ensures
+    let events = events_in (lines o.rest.now) in
+    let all = written_all o.n o.m c.requires.in_range events c.args.out.now c.args.size c.requires.size_value.0 c.requires.size_value.1 c.if-out-size.false c.put_head.new.page.bytes.now
+    c.put_script.new.page.bytes.now c.put_head.new.page.used c.put_script.new.page.used c.put_head.ensures.wrote c.put_script.ensures.wrote in
+    search rules

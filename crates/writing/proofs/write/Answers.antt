@@ -1,33 +1,39 @@
-use Rattle.std.proofs.Common.{◌∙◌, ap, sym, eqb, length, arith}
-use Rattle.writing.specs.declared.Filed.{Filed}
-use Rattle.writing.proofs.WritingLaws.{head-size, passed, replies, leaves, leaves_all}
+use Rattle.std.proofs.Common.{◌≡◌, ◌∙◌, ap, sym, length, arith, rules, Err}
+use Rattle.writing.specs.Writing.{filed, filed_as, write_reply, write_left}
+use Rattle.writing.proofs.WritingLaws.{head-size, replies, passes, refuses, leaves, leaves_all}
 use Rattle.writing.proofs.write.Goals as goal
 
-pub put_head-at-requires : goal.put_head-at-requires
-put_head-at-requires c =
-    let tested = sym (c.is_filed.ensures ∙ ap (λ (f : Filed). eqb f.refusal 0) c.filed_of-filed.ensures) ∙ c.if-is_filed.true in
-    let p = passed c.args.n c.args.m c.file_size-size.result (length c.args.out.now) tested in
-    (omega (arith, p.fits), (omega arith, p.short))
+pub returns-in_err-may_write : goal.returns-in_err-may_write
+returns-in_err-may_write c =
+    let n = c.args.n in
+    let m = c.args.m in
+    let events = c.args.events.now in
+    let out = c.args.out.now in
+    let size = c.file_size-size.result in
+    let r = refuses n m size (length out) c.in_err-may_write.field-0.0 c.in_err-may_write.ensures in
+    let reply : filed_as (Err c.in_err-may_write.field-0.0) ≡ write_reply n m events (length out) = r.0 ∙ sym (replies n m events (length out) size c.file_size-size.ensures) in
+    let left : out ≡ write_left n m events out = leaves_all n m events out size c.file_size-size.ensures r.1 in
+    search rules
+
+pub put_head-requires : goal.put_head-requires
+put_head-requires c =
+    let p = passes c.args.n c.args.m c.file_size-size.result (length c.args.out.now) c.in_ok-may_write.ensures in
+    (omega (arith, p.fits, c.file_size-size.ensures), (omega (arith, c.file_size-size.ensures), p.short))
 
 pub put_events-requires : goal.put_events-requires
 put_events-requires c =
-    let tested = sym (c.is_filed.ensures ∙ ap (λ (f : Filed). eqb f.refusal 0) c.filed_of-filed.ensures) ∙ c.if-is_filed.true in
-    let p = passed c.args.n c.args.m c.file_size-size.result (length c.args.out.now) tested in
-    omega (arith, p.fits, c.put_head-at.ensures.ends, head-size c.file_size-size.result c.args.n c.args.m)
+    let p = passes c.args.n c.args.m c.file_size-size.result (length c.args.out.now) c.in_ok-may_write.ensures in
+    omega (arith, p.fits, c.file_size-size.ensures, c.put_head.ensures.wrote.ends, c.put_head.ensures.long, head-size c.file_size-size.result c.args.n c.args.m)
 
-pub returns-then-is_filed : goal.returns-then-is_filed
-returns-then-is_filed c =
-    let tested = sym (c.is_filed.ensures ∙ ap (λ (f : Filed). eqb f.refusal 0) c.filed_of-filed.ensures) ∙ c.if-is_filed.true in
-    let sized = c.file_size-size.ensures in
-    let p = passed c.args.n c.args.m c.file_size-size.result (length c.args.out.now) tested in (
-      c.filed_of-filed.ensures ∙ sym (replies c.args.n c.args.m c.args.events.now (length c.args.out.now) c.file_size-size.result sized),
-      leaves c.args.n c.args.m c.args.events.now c.args.out.now c.file_size-size.result sized p c.put_head-at.new.buf c.put_events.new.out c.put_head-at.result c.put_events.result c.put_head-at.ensures c.put_events.ensures,
-    )
-
-pub returns-else-is_filed : goal.returns-else-is_filed
-returns-else-is_filed c =
-    let tested = sym (c.is_filed.ensures ∙ ap (λ (f : Filed). eqb f.refusal 0) c.filed_of-filed.ensures) ∙ c.if-is_filed.false in
-    let sized = c.file_size-size.ensures in (
-      c.filed_of-filed.ensures ∙ sym (replies c.args.n c.args.m c.args.events.now (length c.args.out.now) c.file_size-size.result sized),
-      leaves_all c.args.n c.args.m c.args.events.now c.args.out.now c.file_size-size.result sized tested,
-    )
+pub returns : goal.returns
+returns c =
+    let n = c.args.n in
+    let m = c.args.m in
+    let events = c.args.events.now in
+    let out = c.args.out.now in
+    let size = c.file_size-size.result in
+    let p = passes n m size (length out) c.in_ok-may_write.ensures in
+    let reply = ap (λ k. filed k size) c.in_ok-may_write.ensures ∙ sym (replies n m events (length out) size c.file_size-size.ensures) in
+    let left : c.put_events.new.page.bytes.now ≡ write_left n m events out =
+    leaves n m events out size c.file_size-size.ensures p c.put_head.new.page.bytes.now c.put_events.new.page.bytes.now c.put_head.new.page.used c.put_events.new.page.used c.put_head.ensures.wrote c.put_events.ensures.wrote in
+    search rules

@@ -1,12 +1,7 @@
 -- What a turn begins with: the events that are written and those of the lines that are left are all.
-use Rattle.std.proofs.Common.{◌≡◌, length}
 use Rattle.script.specs.Lines.{lines}
 use Rattle.composing.proofs.PassLaws.{Puts}
 use Rattle.composing.proofs.rest.put_script.Given as goal
 
 abbrev pub invariant-loop-next : goal.invariant-loop-next
-invariant-loop-next l =
-    record {
-      long : length l.out ≡ length l.fn.out;
-      puts : Puts l.to (lines l.text) l.fn.out l.out l.place (lines l.next-iterator.rest.now);
-    }
+invariant-loop-next l = Puts (lines l.text) l.fn.page l.page (lines l.next-iterator.rest.now)

@@ -1,49 +1,43 @@
-use Rattle.std.proofs.Common.{sym, ap, ◌∙◌, ◌∷◌, ℕ, ℤ, List, length, arith, w64, rules}
+use Rattle.std.proofs.Common.{sym, ap, ◌∙◌, length, arith, rules, w64}
 use Rattle.std.proofs.lemmas.Int.{to_z-of_z}
-use Rattle.state.specs.declared.Event.{Event}
-use Rattle.text.specs.WrittenLaws.{as_text}
-use Rattle.writing.specs.Bytes.{event_bytes, value_bytes}
-use Rattle.writing.proofs.SizeLaws.{read-size, write-size, deliver-size, crash-size, lose-size}
+use Rattle.text.specs.PagedLaws.{adds_next, adds_text}
+use Rattle.format.specs.Kinds.{first_byte}
+use Rattle.writing.specs.Bytes.{value_bytes}
+use Rattle.writing.proofs.SizeLaws.{word_size, value_size}
+use Rattle.writing.proofs.EventLaws.{rest_bytes, numbered, room_first, room_rest, added}
 use Rattle.writing.proofs.events.put_event.Goals as goal
 
-abbrev size : Event → ℕ
-size e = length (event_bytes e)
+pub put_byte-requires : goal.put_byte-requires
+put_byte-requires c = room_first c.args.event c.args.page.now c.requires
 
-pub put_three-requires : goal.put_three-requires
-put_three-requires c = omega (arith, ap size c.in-Read.is ∙ read-size _ _)
-
-pub put_write-requires : goal.put_write-requires
-put_write-requires c = omega (arith, ap size c.in-Write.is ∙ write-size _ _ _)
-
-pub put_numbered-requires : goal.put_numbered-requires
-put_numbered-requires c = omega (arith, ap size c.in-Deliver.is ∙ deliver-size _)
-
-pub put_two-requires : goal.put_two-requires
-put_two-requires c = omega (arith, ap size c.in-Crash.is ∙ crash-size _)
-
-pub put_numbered-requires-in-Lose : goal.put_numbered-requires-in-Lose
-put_numbered-requires-in-Lose c = omega (arith, ap size c.in-Lose.is ∙ lose-size _)
+pub put_bytes-requires : goal.put_bytes-requires
+put_bytes-requires c = omega (arith, room_rest c.args.event c.args.page.now c.from-2.result c.put_byte.new.self c.put_byte.ensures c.requires, ap length (ap rest_bytes c.in-Read.is))
 
 pub returns-in-Read : goal.returns-in-Read
-unfolding event_bytes
-returns-in-Read c = as_text (sym (ap event_bytes c.in-Read.is)) (omega (arith, ap size c.in-Read.is ∙ read-size c.in-Read.p c.in-Read.x)) c.put_three.ensures
+returns-in-Read c = added c.args.event c.args.page.now c.from-2.result c.put_byte.new.self c.put_byte.ensures c.put_bytes.new.self (c.from-2.ensures ∙ ap first_byte c.from.ensures) (adds_text (sym (ap rest_bytes c.in-Read.is)) (omega (arith, ap length (ap rest_bytes c.in-Read.is))) c.put_bytes.ensures)
 
-pub returns-in-Write : goal.returns-in-Write
-unfolding event_bytes
-returns-in-Write c =
-    let valued : ℤ → List ℕ = λ v. 2 ∷ (c.in-Write.p.0 ∷ (c.in-Write.x ∷ value_bytes v)) in
-    as_text (ap valued (to_z-of_z w64 c.in-Write.v (record { sfits = search rules })) ∙ sym (ap event_bytes c.in-Write.is))
-    (omega (arith, ap size c.in-Write.is ∙ write-size c.in-Write.p c.in-Write.x c.in-Write.v))
-    c.put_write.ensures
-
-pub returns-in-Deliver : goal.returns-in-Deliver
-unfolding event_bytes
-returns-in-Deliver c = as_text (sym (ap event_bytes c.in-Deliver.is)) (omega (arith, ap size c.in-Deliver.is ∙ deliver-size c.in-Deliver.k)) c.put_numbered.ensures
+pub put_byte-requires-in-Crash : goal.put_byte-requires-in-Crash
+put_byte-requires-in-Crash c = omega (arith, room_rest c.args.event c.args.page.now c.from-2.result c.put_byte.new.self c.put_byte.ensures c.requires, ap length (ap rest_bytes c.in-Crash.is))
 
 pub returns-in-Crash : goal.returns-in-Crash
-unfolding event_bytes
-returns-in-Crash c = as_text (sym (ap event_bytes c.in-Crash.is)) (omega (arith, ap size c.in-Crash.is ∙ crash-size c.in-Crash.p)) c.put_two.ensures
+returns-in-Crash c = added c.args.event c.args.page.now c.from-2.result c.put_byte.new.self c.put_byte.ensures c.put_byte-in-Crash.new.self (c.from-2.ensures ∙ ap first_byte c.from.ensures) (adds_text (sym (ap rest_bytes c.in-Crash.is)) (omega (arith, ap length (ap rest_bytes c.in-Crash.is))) c.put_byte-in-Crash.ensures)
 
-pub returns-in-Lose : goal.returns-in-Lose
-unfolding event_bytes
-returns-in-Lose c = as_text (sym (ap event_bytes c.in-Lose.is)) (omega (arith, ap size c.in-Lose.is ∙ lose-size c.in-Lose.k)) c.put_numbered-in-Lose.ensures
+pub put_word-requires : goal.put_word-requires
+put_word-requires c = omega (arith, room_rest c.args.event c.args.page.now c.from-2.result c.put_byte.new.self c.put_byte.ensures c.requires, ap length (numbered c.args.event c.in-Deliver.k c.in-Deliver.is), word_size c.in-Deliver.k)
+
+pub returns-in-Deliver : goal.returns-in-Deliver
+returns-in-Deliver c =
+    let rest = numbered c.args.event c.in-Deliver.k c.in-Deliver.is in
+    added c.args.event c.args.page.now c.from-2.result c.put_byte.new.self c.put_byte.ensures c.put_word.new.page (c.from-2.ensures ∙ ap first_byte c.from.ensures) (adds_text (sym rest) (omega (arith, ap length rest, word_size c.in-Deliver.k)) c.put_word.ensures)
+
+pub put_bytes-requires-in-Write : goal.put_bytes-requires-in-Write
+put_bytes-requires-in-Write c = omega (arith, room_rest c.args.event c.args.page.now c.from-2.result c.put_byte.new.self c.put_byte.ensures c.requires, ap length (ap rest_bytes c.in-Write.is))
+
+pub put_value-requires : goal.put_value-requires
+put_value-requires c = omega (arith, room_rest c.args.event c.args.page.now c.from-2.result c.put_byte.new.self c.put_byte.ensures c.requires, ap length (ap rest_bytes c.in-Write.is), c.put_bytes-in-Write.ensures.wrote.ends, c.put_bytes-in-Write.ensures.long, value_size c.in-Write.v)
+
+pub returns-in-Write : goal.returns-in-Write
+returns-in-Write c =
+    let rest = ap rest_bytes c.in-Write.is in
+    let value = adds_text {k = 8} (ap value_bytes (to_z-of_z w64 c.in-Write.v (record { sfits = search rules }))) (omega arith) c.put_value.ensures in
+    added c.args.event c.args.page.now c.from-2.result c.put_byte.new.self c.put_byte.ensures c.put_value.new.page (c.from-2.ensures ∙ ap first_byte c.from.ensures) (adds_text (sym rest) (omega (arith, ap length rest, value_size c.in-Write.v)) (adds_next c.put_bytes-in-Write.ensures value))

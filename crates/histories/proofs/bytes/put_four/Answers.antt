@@ -1,6 +1,0 @@
-use Rattle.std.proofs.Common.{refl, arith}
-use Rattle.text.specs.WrittenLaws.{and_next, as_text}
-use Rattle.histories.proofs.bytes.put_four.Goals as goal
-
-pub returns : goal.returns
-returns c = as_text refl (omega arith) (and_next c.put_two-next.ensures c.put_two.ensures)

@@ -1,0 +1,12 @@
+-- The loop: what the rest of the order gives is what the whole gives.
+use Rattle.std.proofs.Common.{◌≡◌, length, drop}
+use Rattle.verdicts.specs.Verdict.{rising, zeros}
+use Rattle.verdicts.specs.Rows.{rows_of, numbers_of}
+use Rattle.verdicts.proofs.history.Known.rises.Given as goal
+
+abbrev pub invariant-loop-bytes : goal.invariant-loop-bytes
+invariant-loop-bytes l =
+    record {
+      places : length l.last ≡ 256;
+      whole : rising (rows_of l.self.history.rows.now) l.last (numbers_of (drop l.bytes-index l.bytes-items)) ≡ rising (rows_of l.self.history.rows.now) (zeros 256) (numbers_of l.bytes-items);
+    }

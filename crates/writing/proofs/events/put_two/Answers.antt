@@ -1,5 +1,0 @@
-use Rattle.text.specs.WrittenLaws.{and_next}
-use Rattle.writing.proofs.events.put_two.Goals as goal
-
-pub returns : goal.returns
-returns c = and_next c.put_byte-next.ensures c.put_byte.ensures
