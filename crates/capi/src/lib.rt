@@ -63,7 +63,7 @@ pub fn wagonmoth_add_schedule(sheet: Sheet, bytes: &[u8]) -> Added
 pub fn wagonmoth_print_sheet(sheet: Sheet, out: &mut [u8]) -> usize
     ensures { (result ≡ print_reply sheet out.old) × (out.new ≡ print_left sheet out.old) }
 {
-    sheet_text::print(sheet, &mut *out)
+    sheet_text::print(sheet, out).unwrap_or(0)
 }
 
 // No text of a sheet is longer.
