@@ -8,14 +8,12 @@ ghost use Rattle.composing.specs.Passes.{surveyed, grown, line_bytes, events_in}
 ghost use Rattle.composing.specs.Script.{following};
 
 use crate::NotComposed;
-use format::file::HEAD;
+use format::file::{HEAD, LONGEST};
 use script::marks::Lines;
 use script::meaning::line_of;
 use script::{Fault, Line};
 use text::page::Page;
 use writing::events::{put_event, size_of};
-
-const LONGEST: usize = 65536;
 
 // The size of a file with one line more.
 fn grown(size: usize, line: &[u8]) -> Result<usize, Fault>
