@@ -48,6 +48,7 @@ pub struct Traffic {
 }
 
 // What one schedule adds. One that is refused by file has its number and nothing else.
+// A number and no Option: `enter` takes every number below 32, and `Refusal` has fewer; C counts the files of a sheet by them.
 #[derive(Clone, Copy)]
 pub struct Entry {
     pub refusal: u8,
