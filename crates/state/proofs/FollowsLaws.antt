@@ -3,7 +3,7 @@ use Rattle.std.specs.Prelude.{ℕ, ◌+◌, ◌-◌, ◌≡◌, refl, Bool, true
 use Rattle.std.proofs.Common.{sym, subst, ne_eqb, eq-eqb}
 use Rattle.std.proofs.lemmas.Bool.{eqb-false}
 use Rattle.words.specs.Ranges.{within}
-use Rattle.replica.specs.declared.Answer.{Answer}
+use Rattle.replica.specs.Answer.{Answer}
 use Rattle.replica.specs.declared.Replica.{Replica}
 use Rattle.replica.specs.Handlers.{unless_refused, is_idle, read_begun, read_refusal, read_rule, write_begun, write_refusal, write_rule}
 use Rattle.replica.specs.Handlers.{crashed, crash_refusal as crash_guard, crash_rule}

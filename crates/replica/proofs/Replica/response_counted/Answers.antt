@@ -9,11 +9,11 @@ unfolding response_counted
 returns-then-is_majority c =
     let a = c.args in
     let m : leb (majority_of a.n) (counted (joined a.self.repliers a.from.0)) ≡ true = ap (λ s. leb (majority_of a.n) (counted s)) (sym c.with-repliers.ensures) ∙ sym c.is_majority.ensures ∙ c.if-is_majority.true in
-    rw (c.conclude.ensures, c.broadcast-sends.ensures, c.move_to-self.ensures, c.with-repliers.ensures, c.after_receiving-clock.ensures) (picks_first _ _ _ m)
+    rw (c.broadcast.ensures, c.with-repliers.ensures, c.after_receiving-self.ensures) (picks_first _ _ _ m)
 
 pub returns-else-is_majority : goal.returns-else-is_majority
 unfolding response_counted
 returns-else-is_majority c =
     let a = c.args in
     let m : leb (majority_of a.n) (counted (joined a.self.repliers a.from.0)) ≡ false = ap (λ s. leb (majority_of a.n) (counted s)) (sym c.with-repliers.ensures) ∙ sym c.is_majority.ensures ∙ c.if-is_majority.false in
-    rw (c.accept.ensures, c.move_to-self-else-is_majority.ensures, c.with-repliers.ensures, c.after_receiving-clock.ensures) (picks_second _ _ _ m)
+    rw (c.sending.ensures, c.with-repliers.ensures, c.after_receiving-self.ensures) (picks_second _ _ _ m)
