@@ -12,7 +12,7 @@ use Rattle.figures.specs.declared.Sheet.{Sheet}
 use Rattle.figures.specs.declared.Added.{Added}
 use Rattle.figures.specs.Figures.{one, is_read_row, is_write_row, is_complete, operations_of, in64, lesser, figures_of, history_of}
 use Rattle.figures.specs.Figures.{plus_operations, plus_waits, plus_history, plus_traffic, operations_fit, waits_fit, history_fits, traffic_fits, entered, sheet_fits, added_or28}
-use Rattle.figures.specs.Parts.{one_operation, one_wait, most_wait, FewOperations, FewWaits, Few, OperationsRoom, WaitsRoom, HistoryRoom, TrafficRoom, SheetRoom, file_number}
+use Rattle.figures.specs.Parts.{one_operation, one_wait, most_wait, FewOperations, FewWaits, Few, OperationsRoom, WaitsRoom, HistoryRoom, TrafficRoom, SheetRoom}
 
 -- ---- what is made of parts that are what they are to be
 
@@ -200,9 +200,3 @@ fitted sheet e s h f = rw (h, f) refl
 pub passed : (sheet : Sheet) (e : Entry) → sheet_fits e.refusal (entered sheet e) ≡ false
     → ◌≡◌ {A = Added} (record { refusal = 28; sheet = sheet }) (added_or28 sheet e)
 passed sheet e h = rw h refl
-
-pub own-number : (refusal n : ℕ) → n ≡ 0 → refusal ≡ file_number refusal n
-own-number refusal n e = rw (eq-eqb n 0 e) refl
-
-pub other-number : (refusal n : ℕ) → (n ≡ 0 → ⊥) → 0 ≡ file_number refusal n
-other-number refusal n h = rw (ne_eqb n 0 h) refl

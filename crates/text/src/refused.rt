@@ -1,9 +1,10 @@
 // The line of a refusal, and what stands for one in the line of a run.
-ghost use Rattle.std.specs.Prelude.{◌+◌, ◌≤◌};
+ghost use Rattle.std.specs.Prelude.{◌+◌, ◌≤◌, length};
 ghost use Rattle.words.specs.Refusals.{number as refusal_number};
 ghost use Rattle.words.specs.Stops.{stop_number};
 ghost use Rattle.text.specs.Paged.{Room, Adds};
 ghost use Rattle.text.specs.Printed.{number, printed_refusal};
+ghost use Rattle.text.specs.Written.{Wrote};
 
 use crate::page::Page;
 use words::refusal::Refusal;
@@ -31,4 +32,17 @@ pub fn put_stopped(page: &mut Page<'_>, stopped: Option<Refusal>)
     ensures { Adds (number (stop_number stopped)) 4 page.old page.new }
 {
     page.put_number(stopped.map_or(0, Refusal::number));
+}
+
+// The line by itself, at the front of a lent buffer; how long it is.
+pub fn refusal_text(out: &mut [u8], refusal: Refusal) -> usize
+    requires { 14 ≤ length out.old }
+    ensures { Wrote 0 (printed_refusal (refusal_number refusal)) 14 out.old out.new result }
+{
+    let mut page = Page {
+        bytes: out,
+        used: 0,
+    };
+    put_refusal(&mut page, refusal);
+    page.used
 }
