@@ -28,7 +28,21 @@ pub fn put_rows(page: &mut Page<'_>, rows: &[Row])
     }
 }
 
-// The whole text of a replay that started a bench, and what stopped it; the order is that of its rows.
+// The whole text of a replay that started a bench, and the number of what stopped it, 0 for the end; the order is that of its rows.
+pub fn put_text(out: &mut [u8], bench: &Bench, refusal: u8, rows: &[Row], order: &[u16]) -> usize
+    requires { (81563 ≤ length out.old) × ((bench.now.n ≤ 7) × ((bench.now.m ≤ 16) × ((bench.now.rows ≤ length rows.now) × ((bench.now.rows ≤ 1024) × ((length order.now ≤ 1024) × (ShortBench bench.now × ShortRows bench.now.rows rows.now)))))) }
+    ensures { Reported bench.now refusal rows.now order.now out.old out.new result }
+{
+    let mut page = Page {
+        bytes: out,
+        used: 0,
+    };
+    put_run_line(&mut page, bench, refusal);
+    put_rows(&mut page, &rows[..bench.rows as usize]);
+    put_tail(&mut page, bench, order);
+    page.used
+}
+
 pub fn put_report(
     out: &mut [u8],
     bench: &Bench,
@@ -39,12 +53,5 @@ pub fn put_report(
     requires { (81563 ≤ length out.old) × ((bench.now.n ≤ 7) × ((bench.now.m ≤ 16) × ((bench.now.rows ≤ length rows.now) × ((bench.now.rows ≤ 1024) × ((length order.now ≤ 1024) × (ShortBench bench.now × ShortRows bench.now.rows rows.now)))))) }
     ensures { Reported bench.now (stop_number stopped) rows.now order.now out.old out.new result }
 {
-    let mut page = Page {
-        bytes: out,
-        used: 0,
-    };
-    put_run_line(&mut page, bench, stopped);
-    put_rows(&mut page, &rows[..bench.rows as usize]);
-    put_tail(&mut page, bench, order);
-    page.used
+    put_text(out, bench, stopped.map_or(0, Refusal::number), rows, order)
 }

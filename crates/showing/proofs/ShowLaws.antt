@@ -4,8 +4,9 @@ use Rattle.std.proofs.Common.{sym, ◌∙◌, append_assoc, append-nil, arith, n
 use Rattle.std.proofs.Math.Path.{ap}
 use Rattle.std.proofs.Math.Bool.{cond}
 use Rattle.text.specs.Printed.{printed_refusal}
-use Rattle.text.specs.Written.{Wrote}
-use Rattle.text.specs.WrittenLaws.{and_next, as_text, nothing}
+use Rattle.text.specs.declared.page.Page.{Page}
+use Rattle.text.specs.Paged.{Room, Adds}
+use Rattle.text.specs.PagedLaws.{adds_next, adds_nothing, adds_text}
 use Rattle.state.specs.declared.Event.{Event}
 use Rattle.format.specs.Parse.{Parse}
 use Rattle.format.specs.Parse.{Next, Refused, End}
@@ -16,26 +17,26 @@ use Rattle.writing.proofs.StrideLaws.{strides, numbered}
 use Rattle.writing.proofs.EventsLaws.{event-least}
 use Rattle.showing.specs.Shown.{bench_line, event_line, event_lines, reading_text, shown}
 
--- front is written from `at` on, up to `next`, and reading goes on from `place`, in so many turns at most
-pub record Shows (at : ℕ) (bytes buf₀ buf : List ℕ) (next place : ℕ) : Type 0 where
+-- front is written, and reading goes on from `place`, in so many turns at most
+pub record Shows (bytes : List ℕ) (old new : Page) (place : ℕ) : Type 0 where
   pub front : List ℕ
   pub fuel : ℕ
-  pub wrote : Wrote at front (length front) buf₀ buf next
+  pub adds : Adds front (length front) old new
   pub rest : front ++ reading_text (read_from fuel bytes place) ≡ reading_text (read_out bytes)
   pub enough : length bytes < fuel + place
   pub inside : place ≤ length bytes
-  pub short : next + 14 ≤ 6 * place
+  pub short : new.used + 14 ≤ 6 * place
 
 -- no longer than it is
-pub exactly : {at most r : ℕ} {text xs ys : List ℕ} → Wrote at text most xs ys r → Wrote at text (length text) xs ys r
-exactly w = record { ends = w.ends; lays = w.lays; short = omega arith; room = w.room }
+pub exactly : {most : ℕ} {text : List ℕ} {p q : Page} → Adds text most p q → Adds text (length text) p q
+exactly w = record { wrote = record { ends = w.wrote.ends; lays = w.wrote.lays; short = omega arith; room = w.wrote.room }; long = w.long; same = w.same }
 
-pub starts : (at : ℕ) (bytes buf : List ℕ) → 7 ≤ length bytes → at + 14 ≤ 42 → at ≤ length buf → Shows at bytes buf buf at 7
+pub starts : (bytes : List ℕ) (page : Page) → 7 ≤ length bytes → page.used + 14 ≤ 42 → page.used ≤ length page.bytes.now → Shows bytes page page 7
 unfolding read_out
-starts at bytes buf long low fits =
-    record { front = []; fuel = length bytes; wrote = nothing at buf fits; rest = refl; enough = omega arith; inside = long; short = omega arith }
+starts bytes page long low fits =
+    record { front = []; fuel = length bytes; adds = adds_nothing page fits; rest = refl; enough = omega arith; inside = long; short = omega arith }
 
-module _ (at : ℕ) (bytes buf₀ buf : List ℕ) (next place : ℕ) (s : Shows at bytes buf₀ buf next place) where
+module _ (bytes : List ℕ) (old new : Page) (place : ℕ) (s : Shows bytes old new place) where
   -- there is a turn left
   one_more : (fuel : ℕ) → length bytes < fuel + place → (f : ℕ) × (fuel ≡ suc f)
   one_more zero l = absurd (omega (arith, s.inside))
@@ -55,22 +56,22 @@ module _ (at : ℕ) (bytes buf₀ buf : List ℕ) (next place : ℕ) (s : Shows 
     size : behind-it ≡ place + length (event_bytes event)
     size = (strides bytes place event behind-it e).0
 
-    pub room_for : 6 * length bytes ≤ length buf → next + 6 * length (event_bytes event) ≤ length buf
+    pub room_for : 6 * length bytes ≤ length new.bytes.now → Room (6 * length (event_bytes event)) new
     room_for l = omega (arith, size, (strides bytes place event behind-it e).1, s.short, l)
 
     pub nearer : length bytes - behind-it < length bytes - place
     nearer = omega (arith, size, (strides bytes place event behind-it e).1, event-least event)
 
-    pub goes_on : (buf' : List ℕ) (next' : ℕ) → Wrote next (event_line event) (6 * length (event_bytes event)) buf buf' next' → Shows at bytes buf₀ buf' next' behind-it
-    goes_on buf' next' w =
+    pub goes_on : (next : Page) → Adds (event_line event) (6 * length (event_bytes event)) new next → Shows bytes old next behind-it
+    goes_on next w =
         record {
           front = s.front ++ event_line event;
           fuel = left;
-          wrote = exactly (and_next s.wrote w);
+          adds = exactly (adds_next s.adds w);
           rest = append_assoc s.front (event_line event) (reading_text (read_from left bytes behind-it)) ∙ ap (λ (t : List ℕ). s.front ++ t) (sym one) ∙ rest-by (Next event behind-it) e;
           enough = omega (arith, (one_more s.fuel s.enough).1, s.enough, size, event-least event);
           inside = (strides bytes place event behind-it e).1;
-          short = omega (arith, w.ends, w.short, size, s.short);
+          short = omega (arith, w.wrote.ends, w.wrote.short, size, s.short);
         }
       where
         tail : Reading
@@ -79,15 +80,14 @@ module _ (at : ℕ) (bytes buf₀ buf : List ℕ) (next place : ℕ) (s : Shows 
         one : reading_text (behind event tail) ≡ event_line event ++ reading_text tail
         one = append_assoc (event_line event) (event_lines tail.events) (cond (eqb tail.refusal 0) [] (printed_refusal tail.refusal))
 
-  pub stops : (number : ℕ) → event_at bytes place ≡ Refused number → (buf' : List ℕ) (end : ℕ) → Wrote next (printed_refusal number) 14 buf buf' end
-      → Wrote at (reading_text (read_out bytes)) (6 * length bytes - at) buf₀ buf' end
-  stops number e buf' end w = as_text text (omega (arith, s.wrote.ends, s.short, s.inside)) (and_next s.wrote w)
+  pub stops : (number : ℕ) → event_at bytes place ≡ Refused number → (next : Page) → Adds (printed_refusal number) 14 new next → Adds (reading_text (read_out bytes)) (6 * length bytes - old.used) old next
+  stops number e next w = adds_text text (omega (arith, s.adds.wrote.ends, s.short, s.inside)) (adds_next s.adds w)
     where
       text : s.front ++ printed_refusal number ≡ reading_text (read_out bytes)
       text = sym (ap (λ (t : Bool). s.front ++ cond t [] (printed_refusal number)) (ne_eqb number 0 (numbered bytes place number e))) ∙ rest-by (Refused number) e
 
-  pub ends : event_at bytes place ≡ End → Wrote at (reading_text (read_out bytes)) (6 * length bytes - at) buf₀ buf next
-  ends e = as_text (sym (append-nil s.front) ∙ rest-by End e) (omega (arith, s.wrote.ends, s.short, s.inside)) s.wrote
+  pub ends : event_at bytes place ≡ End → Adds (reading_text (read_out bytes)) (6 * length bytes - old.used) old new
+  ends e = adds_text (sym (append-nil s.front) ∙ rest-by End e) (omega (arith, s.adds.wrote.ends, s.short, s.inside)) s.adds
 
 -- ---- the whole text
 

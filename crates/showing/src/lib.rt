@@ -2,7 +2,7 @@
 #![tactic(auto)]
 
 ghost use Rattle.std.specs.Prelude.{◌≡◌, ◌+◌, ◌-◌, ◌*◌, ◌≤◌, length};
-ghost use Rattle.text.specs.Written.{Wrote};
+ghost use Rattle.text.specs.Paged.{Room, Adds};
 ghost use Rattle.format.specs.Format.{file_refusal};
 ghost use Rattle.buffer.specs.Printing.{printed, print_reply, print_left, Fronts};
 ghost use Rattle.writing.specs.Reading.{read_out};
@@ -10,7 +10,8 @@ ghost use Rattle.showing.specs.Shown.{reading_text, shown};
 
 use format::events::event_at;
 use format::file::{HEAD, M_AT, N_AT, file_refusal};
-use text::lines::put_refusal;
+use text::page::Page;
+use text::refused::put_refusal;
 use words::refusal::Refusal;
 
 mod lines;
@@ -19,40 +20,35 @@ mod lines;
 pub const LONGEST_TEXT: usize = 393216;
 
 // The lines of the events, read to the end, or to bytes that are no event.
-fn put_reading(buf: &mut [u8], at: usize, bytes: &[u8]) -> usize
-    requires in_bounds { (7 ≤ length bytes.now) × (at + 14 ≤ 42) }
-    requires bytes_in_bounds { 6 * length bytes.now ≤ length buf.old }
-    ensures { Wrote at (reading_text (read_out bytes.now)) (6 * length bytes.now - at) buf.old buf.new result }
+fn put_reading(page: &mut Page<'_>, bytes: &[u8])
+    requires in_bounds { (7 ≤ length bytes.now) × (page.old.used + 14 ≤ 42) }
+    requires bytes_in_bounds { (page.old.used ≤ length page.old.bytes.now) × (6 * length bytes.now ≤ length page.old.bytes.now) }
+    ensures { Adds (reading_text (read_out bytes.now)) (6 * length bytes.now - page.old.used) page.old page.new }
 {
-    let mut next = at;
     let mut place = HEAD;
     loop {
         match event_at(bytes, place) {
             Ok(Some((event, behind))) => {
-                next = lines::put_event_line(&mut *buf, next, event);
+                lines::put_event_line(page, event);
                 place = behind;
             }
-            Ok(None) => {
-                return next;
-            }
-            Err(refusal) => {
-                return put_refusal(&mut *buf, next, refusal.number());
-            }
+            Ok(None) => return,
+            Err(refusal) => return put_refusal(page, refusal),
         }
     }
 }
 
-// The text, at the front of the output.
-fn show_into(out: &mut [u8], bytes: &[u8]) -> usize
-    requires { 393216 ≤ length out.old }
-    ensures { Wrote 0 (shown bytes.now) 393216 out.old out.new result }
+// The text, on an empty page.
+fn put_shown(page: &mut Page<'_>, bytes: &[u8])
+    requires { (page.old.used ≡ 0) × Room 393216 page.old }
+    ensures { Adds (shown bytes.now) 393216 page.old page.new }
 {
     match file_refusal(bytes) {
         Ok(()) => {
-            let at = lines::put_bench_line(&mut *out, 0, bytes[N_AT], bytes[M_AT]);
-            put_reading(&mut *out, at, bytes)
+            lines::put_bench_line(page, bytes[N_AT], bytes[M_AT]);
+            put_reading(page, bytes);
         }
-        Err(refusal) => put_refusal(&mut *out, 0, refusal.number()),
+        Err(refusal) => put_refusal(page, refusal),
     }
 }
 
@@ -64,6 +60,10 @@ pub fn show(bytes: &[u8], out: &mut [u8]) -> Result<usize, Refusal>
     if out.len() < LONGEST_TEXT {
         return Err(Refusal::ShortOutput);
     }
-    let size = show_into(&mut *out, bytes);
-    Ok(size)
+    let mut page = Page {
+        bytes: out,
+        used: 0,
+    };
+    put_shown(&mut page, bytes);
+    Ok(page.used)
 }

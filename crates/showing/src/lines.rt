@@ -1,73 +1,63 @@
 // The line of the bench, and of an event.
-ghost use Rattle.std.specs.Prelude.{◌+◌, ◌*◌, ◌≤◌, ◌++◌, length};
+ghost use Rattle.std.specs.Prelude.{◌+◌, ◌*◌, ◌++◌, length};
+ghost use Rattle.text.specs.Paged.{Room, Adds};
 ghost use Rattle.text.specs.Printed.{number};
-ghost use Rattle.text.specs.Written.{Wrote};
 ghost use Rattle.writing.specs.Bytes.{event_bytes};
-ghost use Rattle.state.specs.declared.Event.TheVariants.{Read, Write, Deliver, Crash, Lose};
+ghost use Rattle.state.specs.declared.Event.TheVariants.{Write};
 ghost use Rattle.showing.specs.Shown.{ended, bench_line, event_line};
 
-use buffer::bytes::{NEWLINE, put_byte, put_word};
-use buffer::numbers::{put_number, put_small, put_value};
 use state::Event;
+use text::numbers::Number;
+use text::page::Page;
 
-// A word, a number below 256, and the end.
-fn put_one(buf: &mut [u8], at: usize, word: &[u8], p: u8) -> usize
-    requires { at + length word.now + 7 ≤ length buf.old }
-    ensures { Wrote at (word.now ++ (number p ++ ended)) (length word.now + 7) buf.old buf.new result }
+// A word, a number, and the end.
+fn put_one<N: Number>(page: &mut Page<'_>, word: &str, n: N)
+    requires { Room (length word.now + N.most + 1) page.old }
+    ensures { Adds (word.now ++ (number (N.value n) ++ ended)) (length word.now + N.most + 1) page.old page.new }
 {
-    let a = put_word(&mut *buf, at, word);
-    let b = put_small(&mut *buf, a, p as u16);
-    put_byte(&mut *buf, b, NEWLINE)
+    page.put_str(word);
+    page.put_number(n);
+    page.put_byte(b'\n');
 }
 
 // A word, two numbers below 256, and the end.
-fn put_two(buf: &mut [u8], at: usize, word: &[u8], p: u8, x: u8) -> usize
-    requires { at + length word.now + 13 ≤ length buf.old }
-    ensures { Wrote at (word.now ++ (number p ++ (number x ++ ended))) (length word.now + 13) buf.old buf.new result }
+fn put_two(page: &mut Page<'_>, word: &str, p: u8, x: u8)
+    requires { Room (length word.now + 9) page.old }
+    ensures { Adds (word.now ++ (number p ++ (number x ++ ended))) (length word.now + 9) page.old page.new }
 {
-    let a = put_word(&mut *buf, at, word);
-    let b = put_small(&mut *buf, a, p as u16);
-    let c = put_small(&mut *buf, b, x as u16);
-    put_byte(&mut *buf, c, NEWLINE)
+    page.put_str(word);
+    page.put_number(p);
+    page.put_number(x);
+    page.put_byte(b'\n');
 }
 
-// A word, the number of a message, and the end.
-fn put_numbered(buf: &mut [u8], at: usize, word: &[u8], k: u32) -> usize
-    requires { at + length word.now + 22 ≤ length buf.old }
-    ensures { Wrote at (word.now ++ (number k ++ ended)) (length word.now + 22) buf.old buf.new result }
+fn put_write(page: &mut Page<'_>, p: u8, x: u8, v: i64)
+    requires { Room 35 page.old }
+    ensures { Adds (event_line (Write (record { 0 = p }) x v)) 35 page.old page.new }
 {
-    let a = put_word(&mut *buf, at, word);
-    let b = put_number(&mut *buf, a, k as u64);
-    put_byte(&mut *buf, b, NEWLINE)
+    page.put_str("write");
+    page.put_number(p);
+    page.put_number(x);
+    page.put_value(v);
+    page.put_byte(b'\n');
 }
 
-fn put_write(buf: &mut [u8], at: usize, p: u8, x: u8, v: i64) -> usize
-    requires { at + 39 ≤ length buf.old }
-    ensures { Wrote at (event_line (Write (record { 0 = p }) x v)) 39 buf.old buf.new result }
+pub fn put_bench_line(page: &mut Page<'_>, n: u8, m: u8)
+    requires { Room 18 page.old }
+    ensures { Adds (bench_line n m) 18 page.old page.new }
 {
-    let a = put_word(&mut *buf, at, b"write");
-    let b = put_small(&mut *buf, a, p as u16);
-    let c = put_small(&mut *buf, b, x as u16);
-    let d = put_value(&mut *buf, c, v);
-    put_byte(&mut *buf, d, NEWLINE)
+    put_two(page, "bench", n, m);
 }
 
-pub fn put_bench_line(buf: &mut [u8], at: usize, n: u8, m: u8) -> usize
-    requires { at + 18 ≤ length buf.old }
-    ensures { Wrote at (bench_line n m) 18 buf.old buf.new result }
-{
-    put_two(&mut *buf, at, b"bench", n, m)
-}
-
-pub fn put_event_line(buf: &mut [u8], at: usize, event: Event) -> usize
-    requires { at + 6 * length (event_bytes event) ≤ length buf.old }
-    ensures { Wrote at (event_line event) (6 * length (event_bytes event)) buf.old buf.new result }
+pub fn put_event_line(page: &mut Page<'_>, event: Event)
+    requires { Room (6 * length (event_bytes event)) page.old }
+    ensures { Adds (event_line event) (6 * length (event_bytes event)) page.old page.new }
 {
     match event {
-        Event::Read(p, x) => put_two(&mut *buf, at, b"read", p.0, x),
-        Event::Write(p, x, v) => put_write(&mut *buf, at, p.0, x, v),
-        Event::Deliver(k) => put_numbered(&mut *buf, at, b"deliver", k),
-        Event::Crash(p) => put_one(&mut *buf, at, b"crash", p.0),
-        Event::Lose(k) => put_numbered(&mut *buf, at, b"lose", k),
+        Event::Read(p, x) => put_two(page, "read", p.0, x),
+        Event::Write(p, x, v) => put_write(page, p.0, x, v),
+        Event::Deliver(k) => put_one(page, "deliver", k),
+        Event::Crash(p) => put_one(page, "crash", p.0),
+        Event::Lose(k) => put_one(page, "lose", k),
     }
 }

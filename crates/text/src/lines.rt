@@ -5,15 +5,12 @@ ghost use Rattle.text.specs.Paged.{Room, Adds};
 ghost use Rattle.text.specs.Printed.{number, printed_refusal, proc_line};
 ghost use Rattle.text.specs.Short.{Short};
 ghost use Rattle.text.specs.Written.{Wrote};
-ghost use Rattle.words.specs.Stops.{stop_number};
 
 use crate::bytes::{NEWLINE, put_byte, put_word};
 use crate::numbers::{Number, put_small};
 use crate::page::Page;
-use crate::refused::put_stopped;
 use replica::Replica;
 use state::Bench;
-use words::refusal::Refusal;
 
 pub fn put_refusal(buf: &mut [u8], at: usize, refusal: u8) -> usize
     requires { at + 14 ≤ length buf.old }
@@ -24,21 +21,8 @@ pub fn put_refusal(buf: &mut [u8], at: usize, refusal: u8) -> usize
     put_byte(&mut *buf, b, NEWLINE)
 }
 
-// The first line: the bench, and what stopped the run.
-pub fn put_run_line(page: &mut Page<'_>, bench: &Bench, stopped: Option<Refusal>)
-    requires { Room 28 page.old }
-    ensures { Adds (run_text bench.now.n bench.now.m bench.now.accepted (stop_number stopped)) 28 page.old page.new }
-{
-    page.put_str("run");
-    page.put_number(bench.n);
-    page.put_number(bench.m);
-    page.put_number(bench.accepted);
-    put_stopped(page, stopped);
-    page.put_byte(b'\n');
-}
-
-// The same where the refusal is known by its number.
-pub fn put_run_by_number(page: &mut Page<'_>, bench: &Bench, refusal: u8)
+// The first line: the bench, and the number of what stopped the run, 0 for the end.
+pub fn put_run_line(page: &mut Page<'_>, bench: &Bench, refusal: u8)
     requires { Room 28 page.old }
     ensures { Adds (run_text bench.now.n bench.now.m bench.now.accepted refusal) 28 page.old page.new }
 {

@@ -1,7 +1,6 @@
-// The line of a refusal, and what stands for one in the line of a run.
+// The line of a refusal.
 ghost use Rattle.std.specs.Prelude.{◌+◌, ◌≤◌, length};
 ghost use Rattle.words.specs.Refusals.{number as refusal_number};
-ghost use Rattle.words.specs.Stops.{stop_number};
 ghost use Rattle.text.specs.Paged.{Room, Adds};
 ghost use Rattle.text.specs.Printed.{number, printed_refusal};
 ghost use Rattle.text.specs.Written.{Wrote};
@@ -24,14 +23,6 @@ pub fn put_refusal(page: &mut Page<'_>, refusal: Refusal)
     ensures { Adds (printed_refusal (refusal_number refusal)) 14 page.old page.new }
 {
     put_refused(page, refusal.number());
-}
-
-// Its number, 0 where nothing was refused.
-pub fn put_stopped(page: &mut Page<'_>, stopped: Option<Refusal>)
-    requires { Room 4 page.old }
-    ensures { Adds (number (stop_number stopped)) 4 page.old page.new }
-{
-    page.put_number(stopped.map_or(0, Refusal::number));
 }
 
 // The line by itself, at the front of a lent buffer; how long it is.

@@ -4,11 +4,7 @@ use Rattle.showing.proofs.ShowLaws.{Shows}
 use Rattle.showing.proofs.put_reading.Given as goal
 
 abbrev pub invariant-loop-event : goal.invariant-loop-event
-invariant-loop-event l =
-    record {
-      long : length l.buf ≡ length l.fn.buf;
-      shows : Shows l.at l.bytes l.fn.buf l.buf l.next l.place;
-    }
+invariant-loop-event l = record { long : length l.page.bytes.now ≡ length l.fn.page.bytes.now; shows : Shows l.bytes l.fn.page l.page l.place }
 
 abbrev pub decreases-loop-event : goal.decreases-loop-event
 decreases-loop-event l = length l.bytes - l.place

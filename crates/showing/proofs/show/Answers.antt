@@ -1,3 +1,4 @@
+use Rattle.std.proofs.Common.{rules}
 use Rattle.buffer.proofs.PrintingLaws.{long-reply, long-left, short-reply, short-left}
 use Rattle.showing.specs.Shown.{shown}
 use Rattle.showing.proofs.show.Goals as goal
@@ -12,4 +13,6 @@ pub returns-clause-value : goal.returns-clause-value
 returns-clause-value c =
     let text = shown c.args.bytes.now in
     let long = c.if-out-lt-LONGEST_TEXT.false in
-    (long-reply 393216 text c.args.out.now long c.show_into-size.ensures, long-left 393216 text c.args.out.now long c.show_into-size.ensures)
+    let w = c.put_shown.ensures.wrote in
+    let left = long-left 393216 text c.args.out.now long w in
+    (long-reply 393216 text c.args.out.now long w, search rules)

@@ -1,6 +1,6 @@
 use Rattle.std.proofs.Common.{refl, arith}
-use Rattle.text.specs.WrittenLaws.{and_next, as_text}
+use Rattle.text.specs.PagedLaws.{adds_next, adds_text}
 use Rattle.showing.proofs.lines.put_two.Goals as goal
 
 pub returns : goal.returns
-returns c = as_text refl (omega arith) (and_next c.put_word-a.ensures (and_next c.put_small-b.ensures (and_next c.put_small-c.ensures c.put_byte.ensures)))
+returns c = adds_text refl (omega arith) (adds_next c.put_str.ensures (adds_next c.put_number.ensures (adds_next c.put_number-2.ensures c.put_byte.ensures)))

@@ -1,6 +1,6 @@
 use Rattle.std.proofs.Common.{arith, rules, length-take}
 use Rattle.text.specs.WholeLaws.{whole_page}
-use Rattle.report.proofs.put_report.Goals as goal
+use Rattle.report.proofs.put_text.Goals as goal
 
 pub returns : goal.returns
 returns c messages there =

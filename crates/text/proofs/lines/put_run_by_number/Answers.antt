@@ -1,6 +1,0 @@
-use Rattle.std.proofs.Common.{refl, arith}
-use Rattle.text.specs.PagedLaws.{adds_next, adds_text}
-use Rattle.text.proofs.lines.put_run_by_number.Goals as goal
-
-pub returns : goal.returns
-returns c = adds_text refl (omega arith) (adds_next c.put_str.ensures (adds_next c.put_number.ensures (adds_next c.put_number-2.ensures (adds_next c.put_number-3.ensures (adds_next c.put_number-4.ensures c.put_byte.ensures)))))
