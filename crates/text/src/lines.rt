@@ -53,7 +53,7 @@ pub fn put_proc_line(page: &mut Page<'_>, p: u8, replica: &Replica)
 }
 
 // A word and a number.
-fn put_named<N: Number>(page: &mut Page<'_>, word: &str, n: N)
+pub fn put_named<N: Number>(page: &mut Page<'_>, word: &str, n: N)
     requires { Room (length word.now + N.most) page.old }
     ensures { Adds (word.now ++ number (N.value n)) (length word.now + N.most) page.old page.new }
 {
