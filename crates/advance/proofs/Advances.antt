@@ -34,16 +34,6 @@ module _ (b : Bench) (event : Event) (messages : List Message) (rows : List Row)
   planned : (plan : Result Plan ℕ) → plan ≡ plan_of now event → Done plan event now (step now event)
   planned plan e = subst (λ (q : Result Plan ℕ). Done q event now (step now event)) (sym e) (event-done now (held b messages rows t) event)
 
-  pub refused : (number : ℕ) → Err number ≡ plan_of now event → Advanced b event messages rows (record { refusal = number; bench = b }) messages rows
-  refused number e =
-      let d = planned (Err number) e in
-      record {
-        refusal = sym d.0;
-        bench = bench-is b messages rows t ∙ ap bench_of (sym d.1);
-        messages-laid = messages-are b messages rows t ∙ ap laid_messages (sym d.1);
-        rows-laid = rows_are b messages rows t ∙ ap laid_rows (sym d.1);
-      }
-
   module _ (plan : Plan) (e : Ok plan ≡ plan_of now event) where
     carried : Carried plan event now (step now event).state
     carried = (planned (Ok plan) e).1
@@ -77,3 +67,13 @@ module _ (b : Bench) (event : Event) (messages : List Message) (rows : List Row)
       where
         same : laid ≡ carried_messages plan b.flight messages
         same = e₃ ∙ ap (λ (n : ℕ). posted_at n plan.posted cut) e₁ ∙ ap (posted_at (left_of plan.taken b.flight) plan.posted) e₂
+
+  pub refused : (number : ℕ) → Err number ≡ plan_of now event → Advanced b event messages rows (record { refusal = number; bench = b }) messages rows
+  refused number e =
+      let d = planned (Err number) e in
+      record {
+        refusal = sym d.0;
+        bench = bench-is b messages rows t ∙ ap bench_of (sym d.1);
+        messages-laid = messages-are b messages rows t ∙ ap laid_messages (sym d.1);
+        rows-laid = rows_are b messages rows t ∙ ap laid_rows (sym d.1);
+      }

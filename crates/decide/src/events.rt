@@ -69,19 +69,12 @@ impl View<'_> {
         ensures { answer r result ≡ heard (seen self.entry) r message }
     {
         let asked = self.asked_register(r.phase);
-        let Message {
-            from,
-            time,
-            rid,
-            ..
-        } = message;
+        let sender = message.sender();
         match message.body {
-            Body::Query(x) => r.query_received(from, time, rid, x),
-            Body::Response(pair) => {
-                r.response_received(self.bench.n, asked, from, time, rid, pair)
-            }
-            Body::Update(x, pair) => r.update_received(from, time, rid, x, pair),
-            Body::Ack => r.ack_received(self.bench.n, from, time, rid),
+            Body::Query(x) => r.query_received(sender, x),
+            Body::Response(pair) => r.response_received(self.bench.n, asked, sender, pair),
+            Body::Update(x, pair) => r.update_received(sender, x, pair),
+            Body::Ack => r.ack_received(self.bench.n, sender),
         }
     }
 

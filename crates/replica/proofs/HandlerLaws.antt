@@ -133,14 +133,6 @@ module _ (r : Replica) (n : ℕ) (from : Pid) (time : Time) (rid : Rid) where
       go (Querying row gathered) e = refl
       go (Updating row sent) e = absurd (none row sent e)
 
--- ---- the case that a test picks
-
-pub picks_first : {A : Type 0} (test : Bool) (a b : A) → test ≡ true → a ≡ cond test a b
-picks_first test a b e = simp e
-
-pub picks_second : {A : Type 0} (test : Bool) (a b : A) → test ≡ false → b ≡ cond test a b
-picks_second test a b e = simp e
-
 -- ---- what is accepted was inside the ranges
 
 pub read-inside : (r : Replica) (x row : ℕ) → {m : ℕ} → m ≡ read_refusal r x row → m ≡ 0 → replica_inside 7 r ≡ true

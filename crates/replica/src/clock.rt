@@ -6,6 +6,7 @@ ghost use Rattle.replica.specs.Clock.{after_time, clock_after};
 
 use words::Time;
 
+// A struct of one field, lent by `&mut`: document 01 binds the form, a clock that is lent to a thin layer over a rule of plain numbers.
 #[derive(Clone, Copy, Debug, PartialEq, Eq)]
 pub struct Clock {
     pub time: Time,

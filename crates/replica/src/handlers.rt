@@ -9,7 +9,7 @@ ghost use Rattle.replica.specs.Handlers.{crashed, response_counted, ack_counted}
 use crate::clock::after_receiving;
 use crate::{Ended, Gathered, Handled, Phase, Replica, Sends, fits, refusals};
 use words::refusal::Refusal;
-use words::{Body, Pair, Pid, Rid, Stamp, Time, quorum, stamps};
+use words::{Body, Pair, Pid, Sender, Stamp, quorum, stamps};
 
 impl Replica {
     pub fn begin_read(mut self, register: u8, row: u16) -> Result<Handled, Refusal>
@@ -43,36 +43,28 @@ impl Replica {
         Ok(self.sending(self.broadcast(Body::Update(register, pair))))
     }
 
-    pub fn query_received(
-        mut self,
-        from: Pid,
-        time: Time,
-        rid: Rid,
-        register: u8,
-    ) -> Result<Handled, Refusal>
-        ensures { answer self result ≡ query_received self from time rid register }
+    pub fn query_received(mut self, sender: Sender, register: u8) -> Result<Handled, Refusal>
+        ensures { answer self result ≡ query_received self sender.from sender.time sender.rid register }
     {
-        refusals::check_query(self, from, time, rid, register)?;
-        self.clock = after_receiving(self.clock, time);
+        refusals::check_query(self, sender, register)?;
+        self.clock = after_receiving(self.clock, sender.time);
         let pair = fits::stored(self, register);
-        Ok(self.sending(self.reply(from, rid, Body::Response(pair))))
+        Ok(self.sending(self.reply(sender, Body::Response(pair))))
     }
 
     pub fn update_received(
         mut self,
-        from: Pid,
-        time: Time,
-        rid: Rid,
+        sender: Sender,
         register: u8,
         pair: Pair,
     ) -> Result<Handled, Refusal>
-        ensures { answer self result ≡ update_received self from time rid register pair }
+        ensures { answer self result ≡ update_received self sender.from sender.time sender.rid register pair }
     {
-        refusals::check_update(self, from, time, rid, register, pair)?;
-        self.clock = after_receiving(self.clock, time);
+        refusals::check_update(self, sender, register, pair)?;
+        self.clock = after_receiving(self.clock, sender.time);
         let newest = stamps::newer_of(fits::stored(self, register), pair);
         self.pairs[usize::from(register - 1)] = newest;
-        Ok(self.sending(self.reply(from, rid, Body::Ack)))
+        Ok(self.sending(self.reply(sender, Body::Ack)))
     }
 
     // A response that counts, with what its query has gathered.
@@ -80,16 +72,15 @@ impl Replica {
         mut self,
         n: u8,
         register: u8,
-        from: Pid,
-        time: Time,
+        sender: Sender,
         row: u16,
         gathered: Gathered,
     ) -> Handled
-        requires { (self.clock.0 ≤ most_time) × (time.0 ≤ most_time) × (self.rid.0 ≤ most_rid) }
-        ensures { answered result ≡ response_counted self n register from time row gathered }
+        requires { (self.clock.0 ≤ most_time) × (sender.time.0 ≤ most_time) × (self.rid.0 ≤ most_rid) }
+        ensures { answered result ≡ response_counted self n register sender.from sender.time row gathered }
     {
-        self.clock = after_receiving(self.clock, time);
-        let repliers = quorum::with(self.repliers, from.0);
+        self.clock = after_receiving(self.clock, sender.time);
+        let repliers = quorum::with(self.repliers, sender.from.0);
         if quorum::is_majority(repliers, n) {
             self.rid.0 += 1;
             self.repliers = 0;
@@ -107,32 +98,30 @@ impl Replica {
     }
 
     pub fn response_received(
-        self,
+        mut self,
         n: u8,
         register: u8,
-        from: Pid,
-        time: Time,
-        rid: Rid,
+        sender: Sender,
         pair: Pair,
     ) -> Result<Handled, Refusal>
-        ensures { answer self result ≡ response_received self n register from time rid pair }
+        ensures { answer self result ≡ response_received self n register sender.from sender.time sender.rid pair }
     {
-        refusals::check_response(self, n, register, from, time, rid, pair)?;
+        refusals::check_response(self, n, register, sender, pair)?;
         Ok(match self.phase {
-            Phase::Querying(row, gathered) if rid == self.rid => {
-                self.response_counted(n, register, from, time, row, gathered.with(pair))
+            Phase::Querying(row, gathered) if sender.rid == self.rid => {
+                self.response_counted(n, register, sender, row, gathered.with(pair))
             }
             _ => self.sending(Sends::Nothing),
         })
     }
 
     // An ack that counts, of the pair `sent`.
-    fn ack_counted(mut self, n: u8, from: Pid, time: Time, row: u16, sent: Pair) -> Handled
-        requires { (self.clock.0 ≤ most_time) × (time.0 ≤ most_time) × (self.rid.0 ≤ most_rid) }
-        ensures { answered result ≡ ack_counted self n from time row sent }
+    fn ack_counted(mut self, n: u8, sender: Sender, row: u16, sent: Pair) -> Handled
+        requires { (self.clock.0 ≤ most_time) × (sender.time.0 ≤ most_time) × (self.rid.0 ≤ most_rid) }
+        ensures { answered result ≡ ack_counted self n sender.from sender.time row sent }
     {
-        self.clock = after_receiving(self.clock, time);
-        let repliers = quorum::with(self.repliers, from.0);
+        self.clock = after_receiving(self.clock, sender.time);
+        let repliers = quorum::with(self.repliers, sender.from.0);
         if quorum::is_majority(repliers, n) {
             self.rid.0 += 1;
             self.repliers = 0;
@@ -149,13 +138,13 @@ impl Replica {
         }
     }
 
-    pub fn ack_received(self, n: u8, from: Pid, time: Time, rid: Rid) -> Result<Handled, Refusal>
-        ensures { answer self result ≡ ack_received self n from time rid }
+    pub fn ack_received(mut self, n: u8, sender: Sender) -> Result<Handled, Refusal>
+        ensures { answer self result ≡ ack_received self n sender.from sender.time sender.rid }
     {
-        refusals::check_ack(self, n, from, time, rid)?;
+        refusals::check_ack(self, n, sender)?;
         Ok(match self.phase {
-            Phase::Updating(row, sent) if rid == self.rid => {
-                self.ack_counted(n, from, time, row, sent)
+            Phase::Updating(row, sent) if sender.rid == self.rid => {
+                self.ack_counted(n, sender, row, sent)
             }
             _ => self.sending(Sends::Nothing),
         })

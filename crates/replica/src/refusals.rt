@@ -21,7 +21,7 @@ use crate::phases::is_idle;
 use words::limits::{MOST_TIME, PROCESSES, REGISTERS};
 use words::ranges::{is_within, pair_fits, row_fits, sender_fits};
 use words::refusal::Refusal;
-use words::{Pair, Pid, Rid, Time};
+use words::{Pair, Pid, Sender};
 
 // Why an operation is not begun.
 #[tactic(auto, unfolding(crate::specs::Handlers::begin_refusal))]
@@ -72,40 +72,33 @@ pub fn check_write(r: Replica, me: Pid, register: u8, row: u16) -> Result<(), Re
     check_begin(fits, r.crashed, is_idle(r.phase))
 }
 
-fn request_fits(r: Replica, from: Pid, time: Time, rid: Rid, register: u8) -> bool
-    ensures { result ≡ request_fits r from time rid register }
+fn request_fits(r: Replica, sender: Sender, register: u8) -> bool
+    ensures { result ≡ request_fits r sender.from sender.time sender.rid register }
 {
-    replica_fits(PROCESSES, r) & sender_fits(PROCESSES, from, time, rid) & stored_fits(r, register)
+    replica_fits(PROCESSES, r) & sender_fits(PROCESSES, sender) & stored_fits(r, register)
 }
 
 #[tactic(auto, unfolding(crate::specs::Handlers::query_refusal))]
-pub fn check_query(r: Replica, from: Pid, time: Time, rid: Rid, register: u8) -> Result<(), Refusal>
-    ensures { refusal_number result ≡ query_refusal r from time rid register }
+pub fn check_query(r: Replica, sender: Sender, register: u8) -> Result<(), Refusal>
+    ensures { refusal_number result ≡ query_refusal r sender.from sender.time sender.rid register }
 {
-    let fits = request_fits(r, from, time, rid, register);
+    let fits = request_fits(r, sender, register);
     check_up(Refusal::RecipientCrashed, fits, r.crashed)
 }
 
 #[tactic(auto, unfolding(crate::specs::Handlers::update_refusal))]
-pub fn check_update(
-    r: Replica,
-    from: Pid,
-    time: Time,
-    rid: Rid,
-    register: u8,
-    pair: Pair,
-) -> Result<(), Refusal>
-    ensures { refusal_number result ≡ update_refusal r from time rid register pair }
+pub fn check_update(r: Replica, sender: Sender, register: u8, pair: Pair) -> Result<(), Refusal>
+    ensures { refusal_number result ≡ update_refusal r sender.from sender.time sender.rid register pair }
 {
-    let fits = request_fits(r, from, time, rid, register) & pair_fits(pair, MOST_TIME, PROCESSES);
+    let fits = request_fits(r, sender, register) & pair_fits(pair, MOST_TIME, PROCESSES);
     check_up(Refusal::RecipientCrashed, fits, r.crashed)
 }
 
 // A reply is counted, so N is known here: the sender is one of 1 to `n`, and so are those that replied before it.
-fn reply_fits(r: Replica, n: u8, from: Pid, time: Time, rid: Rid) -> bool
-    ensures { result ≡ reply_fits r n from time rid }
+fn reply_fits(r: Replica, n: u8, sender: Sender) -> bool
+    ensures { result ≡ reply_fits r n sender.from sender.time sender.rid }
 {
-    replica_fits(n, r) & sender_fits(n, from, time, rid) & is_within(n, PROCESSES)
+    replica_fits(n, r) & sender_fits(n, sender) & is_within(n, PROCESSES)
 }
 
 #[tactic(auto, unfolding(crate::specs::Handlers::response_refusal))]
@@ -113,24 +106,22 @@ pub fn check_response(
     r: Replica,
     n: u8,
     register: u8,
-    from: Pid,
-    time: Time,
-    rid: Rid,
+    sender: Sender,
     pair: Pair,
 ) -> Result<(), Refusal>
-    ensures { refusal_number result ≡ response_refusal r n register from time rid pair }
+    ensures { refusal_number result ≡ response_refusal r n register sender.from sender.time sender.rid pair }
 {
-    let fits = reply_fits(r, n, from, time, rid)
+    let fits = reply_fits(r, n, sender)
         & is_within(register, REGISTERS)
         & pair_fits(pair, MOST_TIME, PROCESSES);
     check_up(Refusal::RecipientCrashed, fits, r.crashed)
 }
 
 #[tactic(auto, unfolding(crate::specs::Handlers::ack_refusal))]
-pub fn check_ack(r: Replica, n: u8, from: Pid, time: Time, rid: Rid) -> Result<(), Refusal>
-    ensures { refusal_number result ≡ ack_refusal r n from time rid }
+pub fn check_ack(r: Replica, n: u8, sender: Sender) -> Result<(), Refusal>
+    ensures { refusal_number result ≡ ack_refusal r n sender.from sender.time sender.rid }
 {
-    let fits = reply_fits(r, n, from, time, rid);
+    let fits = reply_fits(r, n, sender);
     check_up(Refusal::RecipientCrashed, fits, r.crashed)
 }
 

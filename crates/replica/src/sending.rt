@@ -5,7 +5,7 @@ ghost use Rattle.replica.specs.Answer.{handled};
 ghost use Rattle.replica.specs.declared.Ended.TheVariants.{Pending};
 
 use crate::{Ended, Handled, Letter, Replica, Sends};
-use words::{Body, Pid, Rid};
+use words::{Body, Sender};
 
 impl Replica {
     // No phase ended.
@@ -30,16 +30,14 @@ impl Replica {
     }
 
     // A reply bears the request's number.
-    pub(crate) fn reply(self, to: Pid, rid: Rid, body: Body) -> Sends
-        ensures { result ≡ reply_of to self.clock.0 rid.0 body }
+    pub(crate) fn reply(self, sender: Sender, body: Body) -> Sends
+        ensures { result ≡ reply_of sender.from self.clock.0 sender.rid.0 body }
     {
-        Sends::Reply(
-            to,
-            Letter {
-                time: self.clock,
-                rid,
-                body,
-            },
-        )
+        let letter = Letter {
+            time: self.clock,
+            rid: sender.rid,
+            body,
+        };
+        Sends::Reply(sender.from, letter)
     }
 }

@@ -18,15 +18,15 @@ returns-in_err-check_ack c =
 pub ack_counted-requires : goal.ack_counted-requires
 ack_counted-requires c =
     let a = c.args in
-    let i = ack-inside a.self a.n a.from a.time a.rid c.in_ok-check_ack.ensures refl in
-    (fits-clock a.n a.self i.0, sender-time a.n a.from a.time a.rid i.1, fits-rid a.n a.self i.0)
+    let i = ack-inside a.self a.n a.sender.from a.sender.time a.sender.rid c.in_ok-check_ack.ensures refl in
+    (fits-clock a.n a.self i.0, sender-time a.n a.sender.from a.sender.time a.sender.rid i.1, fits-rid a.n a.self i.0)
 
 pub returns-in-Updating : goal.returns-in-Updating
 unfolding ack_received
 returns-in-Updating c =
     let a = c.args in
     let w = c.in-Updating in
-    c.ack_counted.ensures ∙ ack-for a.self a.n a.from a.time a.rid w.row w.sent w.is c.if-eq.ensures ∙ rule-by _ _ _ _ c.in_ok-check_ack.ensures refl
+    c.ack_counted.ensures ∙ ack-for a.self a.n a.sender.from a.sender.time a.sender.rid w.row w.sent w.is c.if-eq.ensures ∙ rule-by _ _ _ _ c.in_ok-check_ack.ensures refl
 
 pub returns-in_default : goal.returns-in_default
 unfolding ack_received
@@ -34,9 +34,9 @@ returns-in_default c =
     let a = c.args in
     rw c.sending.ensures (left ∙ rule-by _ _ _ _ c.in_ok-check_ack.ensures refl)
   where
-    left : discarded c.args.self ≡ ack_rule c.args.self c.args.n c.args.from c.args.time c.args.rid
+    left : discarded c.args.self ≡ ack_rule c.args.self c.args.n c.args.sender.from c.args.sender.time c.args.sender.rid
     left =
         elim c.in_default.branch [
-          | in_default-via-in-Updating+else-eq w ↦ ack-late c.args.self c.args.n c.args.from c.args.time c.args.rid w.in-Updating.row w.in-Updating.sent w.in-Updating.is w.if-eq.ensures
-          | in_default-via-in_default w ↦ ack-idle c.args.self c.args.n c.args.from c.args.time c.args.rid w.in_default.not-Updating
+          | in_default-via-in-Updating+else-eq w ↦ ack-late c.args.self c.args.n c.args.sender.from c.args.sender.time c.args.sender.rid w.in-Updating.row w.in-Updating.sent w.in-Updating.is w.if-eq.ensures
+          | in_default-via-in_default w ↦ ack-idle c.args.self c.args.n c.args.sender.from c.args.sender.time c.args.sender.rid w.in_default.not-Updating
         ]

@@ -17,13 +17,13 @@ returns-in_err-check_query c =
 pub after_receiving-self-requires : goal.after_receiving-self-requires
 after_receiving-self-requires c =
     let a = c.args in
-    let i = query-inside a.self a.from a.time a.rid a.register c.in_ok-check_query.ensures refl in
-    (fits-clock 7 a.self i.0, sender-time 7 a.from a.time a.rid i.1)
+    let i = query-inside a.self a.sender.from a.sender.time a.sender.rid a.register c.in_ok-check_query.ensures refl in
+    (fits-clock 7 a.self i.0, sender-time 7 a.sender.from a.sender.time a.sender.rid i.1)
 
 pub stored-pair-requires : goal.stored-pair-requires
 stored-pair-requires c =
     let a = c.args in
-    let i = query-inside a.self a.from a.time a.rid a.register c.in_ok-check_query.ensures refl in
+    let i = query-inside a.self a.sender.from a.sender.time a.sender.rid a.register c.in_ok-check_query.ensures refl in
     (within-least _ 16 i.2, within-most _ 16 i.2)
 
 pub returns : goal.returns

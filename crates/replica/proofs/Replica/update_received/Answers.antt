@@ -17,25 +17,25 @@ returns-in_err-check_update c =
 pub after_receiving-self-requires : goal.after_receiving-self-requires
 after_receiving-self-requires c =
     let a = c.args in
-    let i = update-inside a.self a.from a.time a.rid a.register a.pair c.in_ok-check_update.ensures refl in
-    (fits-clock 7 a.self i.0, sender-time 7 a.from a.time a.rid i.1)
+    let i = update-inside a.self a.sender.from a.sender.time a.sender.rid a.register a.pair c.in_ok-check_update.ensures refl in
+    (fits-clock 7 a.self i.0, sender-time 7 a.sender.from a.sender.time a.sender.rid i.1)
 
 pub stored-requires : goal.stored-requires
 stored-requires c =
     let a = c.args in
-    let i = update-inside a.self a.from a.time a.rid a.register a.pair c.in_ok-check_update.ensures refl in
+    let i = update-inside a.self a.sender.from a.sender.time a.sender.rid a.register a.pair c.in_ok-check_update.ensures refl in
     (within-least _ 16 i.2, within-most _ 16 i.2)
 
 pub overflow_sub-register : goal.overflow_sub-register
 overflow_sub-register c =
     let a = c.args in
-    let i = update-inside a.self a.from a.time a.rid a.register a.pair c.in_ok-check_update.ensures refl in
+    let i = update-inside a.self a.sender.from a.sender.time a.sender.rid a.register a.pair c.in_ok-check_update.ensures refl in
     within-least _ 16 i.2
 
 pub bounds-self-from : goal.bounds-self-from
 bounds-self-from c =
     let a = c.args in
-    let i = update-inside a.self a.from a.time a.rid a.register a.pair c.in_ok-check_update.ensures refl in
+    let i = update-inside a.self a.sender.from a.sender.time a.sender.rid a.register a.pair c.in_ok-check_update.ensures refl in
     omega (arith, c.from.ensures, within-least a.register 16 i.2, within-most a.register 16 i.2)
 
 pub returns : goal.returns
