@@ -1,8 +1,2 @@
-// Bytes, words and numbers, written into a lent buffer.
+// A text laid at the front of a lent output, or 19: what such a function replies and leaves stands in specs/, and its laws in proofs/.
 #![tactic(auto)]
-
-pub mod bytes;
-pub mod numbers;
-
-// Document 02's number of refusal for an output that is too short.
-pub const SHORT_OUTPUT: u8 = 19;

@@ -16,7 +16,10 @@ use words::{Pid, Stamp, Time};
 pub fn wagonmoth_replay(bytes: &[u8], out: &mut [u8]) -> usize
     ensures { (result ≡ replay_reply bytes.now out.old) × (out.new ≡ replay_left bytes.now out.old) }
 {
-    replaying::replay(bytes, &mut *out)
+    match replaying::replay(bytes, out) {
+        Ok(size) => size,
+        Err(_) => 0,
+    }
 }
 
 // No text of a replay is longer.
@@ -63,7 +66,7 @@ pub fn wagonmoth_add_schedule(sheet: Sheet, bytes: &[u8]) -> Added
 pub fn wagonmoth_print_sheet(sheet: Sheet, out: &mut [u8]) -> usize
     ensures { (result ≡ print_reply sheet out.old) × (out.new ≡ print_left sheet out.old) }
 {
-    sheet_text::print(sheet, &mut *out)
+    sheet_text::print(sheet, out).unwrap_or(0)
 }
 
 // No text of a sheet is longer.

@@ -1,11 +1,12 @@
 // Small schedules that are built in, each replayed: P12, and things that are no schedule.
 #![tactic(auto)]
 
+use replaying::LONGEST_TEXT;
 use std::io;
 
 fn show(rt: &impl Print, bytes: &[u8]) -> io::Result<()> {
-    let mut text = [0u8; 81563];
-    let written = replaying::replay(bytes, &mut text);
+    let mut text = [0u8; LONGEST_TEXT];
+    let written = replaying::replay(bytes, &mut text).unwrap();
     rt.write_all(&text[..written])
 }
 

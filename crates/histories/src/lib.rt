@@ -4,14 +4,14 @@
 ghost use Rattle.std.specs.Prelude.{◌+◌, ◌*◌, ◌≤◌, length};
 ghost use Rattle.text.specs.Paged.{Room, Adds};
 ghost use Rattle.verdicts.specs.File.{two, numbers_bytes};
-ghost use Rattle.histories.specs.OwnFile.{head_text, rows_text, file_of, Recorded};
+ghost use Rattle.histories.specs.OwnFile.{head_text, rows_text, order_text, file_of, Recorded};
 
 use crate::rows::put_row;
 use tables::Row;
 use text::page::Page;
 use verdicts::rows::{NUMBER_SIZE, ROW_SIZE, VERSION};
 
-mod rows;
+pub mod rows;
 
 // Version and the two counts, which the length field counts beside the rows and the row numbers.
 const FIXED_SIZE: usize = 1 + NUMBER_SIZE + NUMBER_SIZE;
@@ -25,7 +25,7 @@ fn put_number(page: &mut Page<'_>, n: u16)
 }
 
 // The length, the version and the count of rows.
-fn put_head(page: &mut Page<'_>, rows: usize, numbers: usize)
+pub fn put_head(page: &mut Page<'_>, rows: usize, numbers: usize)
     requires { Room 7 page.old × ((rows ≤ 1024) × (numbers ≤ 1024)) }
     ensures { Adds (head_text rows numbers) 7 page.old page.new }
 {
@@ -35,7 +35,7 @@ fn put_head(page: &mut Page<'_>, rows: usize, numbers: usize)
     put_number(page, rows as u16);
 }
 
-fn put_rows(page: &mut Page<'_>, rows: &[Row])
+pub fn put_rows(page: &mut Page<'_>, rows: &[Row])
     requires { Room (12 * length rows.now) page.old }
     ensures { Adds (rows_text rows.now) (12 * length rows.now) page.old page.new }
 {
@@ -53,14 +53,22 @@ fn put_numbers(page: &mut Page<'_>, order: &[u16])
     }
 }
 
+// The count of row numbers, and the numbers.
+pub fn put_order(page: &mut Page<'_>, order: &[u16])
+    requires { Room (2 + 2 * length order.now) page.old × (length order.now ≤ 1024) }
+    ensures { Adds (order_text (length order.now) order.now) (2 + 2 * length order.now) page.old page.new }
+{
+    put_number(page, order.len() as u16);
+    put_numbers(page, order);
+}
+
 fn put_file(page: &mut Page<'_>, rows: &[Row], order: &[u16])
     requires { Room 14345 page.old × ((length rows.now ≤ 1024) × (length order.now ≤ 1024)) }
     ensures { Adds (file_of rows.now order.now) 14345 page.old page.new }
 {
     put_head(page, rows.len(), order.len());
     put_rows(page, rows);
-    put_number(page, order.len() as u16);
-    put_numbers(page, order);
+    put_order(page, order);
 }
 
 // The whole file, at the front of the buffer; how long it is.

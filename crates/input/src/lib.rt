@@ -1,4 +1,4 @@
-// What a program is given: an input, read as far as a buffer holds.
+// What the programs share: an input, read as far as a buffer holds, what is done with it, and what is written of it.
 #![tactic(auto)]
 
 ghost use Rattle.std.specs.Prelude.{◌<◌, ◌≤◌, length, take, IfOk};
@@ -33,6 +33,31 @@ pub fn argument_count(rt: &impl Env) -> usize {
         }
     }
     usize::MAX
+}
+
+// A program that reads its standard input and takes no arguments; whoever gives one, as `-h`, is told what it takes. A buffer of one byte more than the longest
+// input has shows the work a longer one, which is then refused and not cut.
+pub fn run<F: FnOnce(&[u8]) -> io::Result<()>>(
+    rt: &HostRuntime,
+    usage: &str,
+    buffer: &mut [u8],
+    work: F,
+) -> io::Result<()>
+    requires { F.IsAlwaysCallable work }
+{
+    if argument_count(rt) > 1 {
+        return eprintln!(rt; "usage: {usage}");
+    }
+    let read = read_full(&mut rt.stdin(), buffer)?;
+    work(&buffer[..read])
+}
+
+// Writes to standard output; where that fails, standard error has what could not be written.
+pub fn say(rt: &HostRuntime, what: &str, text: &[u8]) -> io::Result<()> {
+    if rt.write_all(text).is_err() {
+        eprintln!(rt; "{what} could not be written to standard output")?;
+    }
+    Ok(())
 }
 
 #[cfg(test)]

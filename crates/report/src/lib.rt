@@ -6,9 +6,9 @@ pub mod by_number;
 ghost use Rattle.std.specs.Prelude.{◌+◌, ◌*◌, ◌≤◌, length, take};
 ghost use Rattle.text.specs.Paged.{Room, Adds};
 ghost use Rattle.text.specs.Printed.{row_lines};
-ghost use Rattle.text.specs.Short.{ShortBench, ShortRows};
+ghost use Rattle.text.specs.Short.{ShortRows};
 ghost use Rattle.words.specs.Stops.{stop_number};
-ghost use Rattle.report.specs.Reported.{Reported};
+ghost use Rattle.report.specs.Reported.{Reported, Reportable};
 
 use state::Bench;
 use tables::Row;
@@ -30,7 +30,7 @@ pub fn put_rows(page: &mut Page<'_>, rows: &[Row])
 
 // The whole text of a replay that started a bench, and the number of what stopped it, 0 for the end; the order is that of its rows.
 pub fn put_text(out: &mut [u8], bench: &Bench, refusal: u8, rows: &[Row], order: &[u16]) -> usize
-    requires { (81563 ≤ length out.old) × ((bench.now.n ≤ 7) × ((bench.now.m ≤ 16) × ((bench.now.rows ≤ length rows.now) × ((bench.now.rows ≤ 1024) × ((length order.now ≤ 1024) × (ShortBench bench.now × ShortRows bench.now.rows rows.now)))))) }
+    requires { (81563 ≤ length out.old) × Reportable bench.now rows.now order.now }
     ensures { Reported bench.now refusal rows.now order.now out.old out.new result }
 {
     let mut page = Page {
@@ -50,7 +50,7 @@ pub fn put_report(
     rows: &[Row],
     order: &[u16],
 ) -> usize
-    requires { (81563 ≤ length out.old) × ((bench.now.n ≤ 7) × ((bench.now.m ≤ 16) × ((bench.now.rows ≤ length rows.now) × ((bench.now.rows ≤ 1024) × ((length order.now ≤ 1024) × (ShortBench bench.now × ShortRows bench.now.rows rows.now)))))) }
+    requires { (81563 ≤ length out.old) × Reportable bench.now rows.now order.now }
     ensures { Reported bench.now (stop_number stopped) rows.now order.now out.old out.new result }
 {
     put_text(out, bench, stopped.map_or(0, Refusal::number), rows, order)

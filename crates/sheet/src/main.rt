@@ -3,6 +3,7 @@
 
 use figures::Sheet;
 use figures::totals::Overflow;
+use format::file::LONGEST;
 use sheet_text::LONGEST_TEXT;
 use std::env::Env;
 use std::fs::File;
@@ -12,7 +13,7 @@ use std::{fs, io, str};
 const FILES_A_LINE: usize = 1000;
 
 // One byte more than the longest schedule has, so that a longer one is refused and not cut.
-const BYTES: usize = 65537;
+const BYTES: usize = LONGEST + 1;
 
 // Says what failed, in the system's words: std's have a number behind them.
 fn fail(rt: &HostRuntime, what: &[u8], error: io::Error) -> io::Result<()> {
@@ -86,7 +87,7 @@ fn main(rt: HostRuntime) -> io::Result<()> {
     let mut sheet = Sheet::default();
     let unread = add_all(&rt, &mut sheet, input::argument_count(&rt));
     let mut text = [0u8; LONGEST_TEXT];
-    let written = sheet_text::print(sheet, &mut text);
+    let written = sheet_text::print(sheet, &mut text).unwrap_or(0);
     let printed = rt.write_all(&text[..written]);
     if unread != 0 {
         let _ = eprintln!(rt; "files not read: {unread}");

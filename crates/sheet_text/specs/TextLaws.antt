@@ -1,8 +1,8 @@
 -- Laws of the lines of a sheet: the two ways of a line, one more of the numbers met, the whole of its two parts, and what printing replies.
-use Rattle.std.specs.Prelude.{ℕ, zero, suc, ◌+◌, ◌≤◌, ◌<◌, ◌≡◌, Bool, List, [], ◌∷◌, ◌++◌, get_or, take}
+use Rattle.std.specs.Prelude.{ℕ, zero, suc, ◌+◌, ◌≤◌, ◌<◌, ◌≡◌, Bool, List, [], ◌∷◌, ◌++◌, get_or, leb, take, Result, Ok, Err}
 use Rattle.std.proofs.Common.{sym, subst, ◌∙◌, append_assoc, append-nil, arith, add-one, length-take, eq-eqb, ne_eqb, le-leb}
-use Rattle.std.proofs.Math.Path.{ap}
-use Rattle.std.proofs.Math.Bool.{cond}
+use Rattle.std.proofs.Math.Path.{refl, ap}
+use Rattle.std.proofs.Math.Bool.{cond, true, false}
 use Rattle.std.proofs.Math.ListN.{length}
 use Rattle.std.proofs.lemmas.Bool.{lt-leb}
 use Rattle.tables.specs.Tables.{laid_at}
@@ -12,6 +12,10 @@ use Rattle.text.specs.LaidLaws.{laid-length}
 use Rattle.figures.specs.declared.Waits.{Waits}
 use Rattle.figures.specs.declared.Sheet.{Sheet}
 use Rattle.sheet_text.specs.SheetText.{word_wait, schedules_line, refused_line, refused_lines, mean, wait_line, sheet_text, print_reply, print_left}
+use Rattle.std.specs.Result.{result_unwrap_or}
+use Rattle.words.specs.declared.refusal.Refusal.{Refusal}
+use Rattle.words.specs.declared.refusal.Refusal.TheVariants.{ShortOutput}
+use Rattle.sheet_text.specs.Printing.{print_result}
 use Rattle.sheet_text.specs.TextParts.{head_text, rest_text}
 
 -- ---- the two ways of a line
@@ -59,10 +63,21 @@ whole_is s = append_assoc (schedules_line s.schedules) (refused_lines s.files 1 
 
 -- ---- what printing replies
 
+reply-sized : (t : Bool) (n : ℕ) → result_unwrap_or {E = Refusal} (cond t (Ok n) (Err ShortOutput)) 0 ≡ cond t n 0
+reply-sized true n = refl
+reply-sized false n = refl
+
+-- the reply that C has
+pub size-is : (s : Sheet) (out : List ℕ) → result_unwrap_or (print_result s out) 0 ≡ print_reply s out
+unfolding print_result print_reply
+size-is s out = reply-sized (leb 1409 (length out)) (length (sheet_text s))
+
 module _ (s : Sheet) (out : List ℕ) where
-  pub long-reply : 1409 ≤ length out → (r : ℕ) (out' : List ℕ) → Wrote 0 (sheet_text s) 1409 out out' r → r ≡ print_reply s out
-  unfolding print_reply
-  long-reply l r out' w = counted w.ends ∙ ap (λ (t : Bool). cond t (length (sheet_text s)) 0) (sym (le-leb 1409 (length out) l))
+  pub long-result : 1409 ≤ length out → (r : ℕ) (out' : List ℕ) → Wrote 0 (sheet_text s) 1409 out out' r → Ok r ≡ print_result s out
+  unfolding print_result
+  long-result l r out' w =
+      ap {B = Result ℕ Refusal} (λ (n : ℕ). Ok n) (counted w.ends)
+      ∙ ap {B = Result ℕ Refusal} (λ (t : Bool). cond t (Ok (length (sheet_text s))) (Err ShortOutput)) (sym (le-leb 1409 (length out) l))
     where
       counted : r ≡ 0 + length (sheet_text s) → r ≡ length (sheet_text s)
       counted q = omega (arith, q)
@@ -71,9 +86,9 @@ module _ (s : Sheet) (out : List ℕ) where
   unfolding print_left
   long-left l r out' w = w.lays ∙ ap (λ (t : Bool). cond t (laid_at 0 (sheet_text s) out) out) (sym (le-leb 1409 (length out) l))
 
-  pub short-reply : length out < 1409 → 0 ≡ print_reply s out
-  unfolding print_reply
-  short-reply l = ap (λ (t : Bool). cond t (length (sheet_text s)) 0) (sym (lt-leb 1409 (length out) l))
+  pub short-result : length out < 1409 → Err ShortOutput ≡ print_result s out
+  unfolding print_result
+  short-result l = ap {B = Result ℕ Refusal} (λ (t : Bool). cond t (Ok (length (sheet_text s))) (Err ShortOutput)) (sym (lt-leb 1409 (length out) l))
 
   pub short-left : length out < 1409 → out ≡ print_left s out
   unfolding print_left

@@ -1,5 +1,6 @@
 // The whole text of a sheet.
 ghost use Rattle.std.specs.Prelude.{◌+◌, ◌≤◌, length};
+ghost use Rattle.text.specs.Paged.{Room, Adds};
 ghost use Rattle.text.specs.Written.{Wrote};
 ghost use Rattle.sheet_text.specs.SheetText.{sheet_text};
 ghost use Rattle.sheet_text.specs.TextParts.{head_text, rest_text};
@@ -8,32 +9,37 @@ use crate::lines::{
     put_operations_line, put_refused_lines, put_schedules_line, put_traffic_line, put_wait_line,
 };
 use figures::Sheet;
+use text::page::Page;
 
 // How many there were, and how many were refused by file.
-fn put_head(buf: &mut [u8], at: usize, sheet: Sheet) -> usize
-    requires { at + 1116 ≤ length buf.old }
-    ensures { Wrote at (head_text sheet) 1116 buf.old buf.new result }
+fn put_head(page: &mut Page<'_>, sheet: &Sheet)
+    requires { Room 1116 page.old }
+    ensures { Adds (head_text sheet.now) 1116 page.old page.new }
 {
-    let files = sheet.files;
-    let a = put_schedules_line(&mut *buf, at, sheet.schedules);
-    put_refused_lines(&mut *buf, a, files)
+    put_schedules_line(page, sheet.schedules);
+    put_refused_lines(page, &sheet.files);
 }
 
 // What the others came to.
-fn put_rest(buf: &mut [u8], at: usize, sheet: Sheet) -> usize
-    requires { at + 293 ≤ length buf.old }
-    ensures { Wrote at (rest_text sheet) 293 buf.old buf.new result }
+fn put_rest(page: &mut Page<'_>, sheet: &Sheet)
+    requires { Room 293 page.old }
+    ensures { Adds (rest_text sheet.now) 293 page.old page.new }
 {
-    let a = put_operations_line(&mut *buf, at, b"read", sheet.history.reads);
-    let b = put_operations_line(&mut *buf, a, b"write", sheet.history.writes);
-    let c = put_traffic_line(&mut *buf, b, sheet.traffic);
-    put_wait_line(&mut *buf, c, sheet.history.waits)
+    put_operations_line(page, "read", sheet.history.reads);
+    put_operations_line(page, "write", sheet.history.writes);
+    put_traffic_line(page, sheet.traffic);
+    put_wait_line(page, sheet.history.waits);
 }
 
-pub fn put_sheet(buf: &mut [u8], sheet: Sheet) -> usize
-    requires { 1409 ≤ length buf.old }
-    ensures { Wrote 0 (sheet_text sheet) 1409 buf.old buf.new result }
+pub fn put_sheet(out: &mut [u8], sheet: &Sheet) -> usize
+    requires { 1409 ≤ length out.old }
+    ensures { Wrote 0 (sheet_text sheet.now) 1409 out.old out.new result }
 {
-    let a = put_head(&mut *buf, 0, sheet);
-    put_rest(&mut *buf, a, sheet)
+    let mut page = Page {
+        bytes: out,
+        used: 0,
+    };
+    put_head(&mut page, sheet);
+    put_rest(&mut page, sheet);
+    page.used
 }

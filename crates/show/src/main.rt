@@ -1,25 +1,21 @@
 // The program: a schedule from standard input, its text to standard output.
 #![tactic(auto)]
 
+use format::file::LONGEST;
+use showing::LONGEST_TEXT;
 use std::io;
 
-// It takes no arguments; whoever gives one, as `-h`, is told what it takes.
-fn help(rt: &impl Eprint) -> io::Result<()> {
-    eprintln!(rt;
-        "usage: show < FILE\nPrints the schedule in FILE as text, which compose makes the same file of."
-    )
-}
+const USAGE: &str = "show < FILE\nPrints the schedule in FILE as text, which compose makes the same file of.";
 
-fn main(rt: HostRuntime) -> io::Result<()> {
-    if input::argument_count(&rt) > 1 {
-        return help(&rt);
-    }
-    // One byte more than the longest file has, so that a longer one is refused and not cut.
-    let mut bytes = [0u8; 65537];
-    let mut text = [0u8; 393216];
-    let read = input::read_full(&mut rt.stdin(), &mut bytes)?;
-    match showing::show(&bytes[..read], &mut text) {
+fn print(rt: &HostRuntime, schedule: &[u8], text: &mut [u8]) -> io::Result<()> {
+    match showing::show(schedule, text) {
         Ok(size) => rt.write_all(&text[..size]),
         Err(_) => Ok(()),
     }
+}
+
+fn main(rt: HostRuntime) -> io::Result<()> {
+    let mut bytes = [0u8; LONGEST + 1];
+    let mut text = [0u8; LONGEST_TEXT];
+    input::run(&rt, USAGE, &mut bytes, |schedule| print(&rt, schedule, &mut text))
 }

@@ -121,35 +121,50 @@ module _ (line : ℕ → List ℕ) (lines : ℕ → ℕ → List ℕ) (none : (x
 before-one : (i : ℕ) → i + 1 - 1 ≡ i
 before-one i = omega arith
 
-pub one_reg : (m : ℕ) (pairs : List Pair) (p i : ℕ) → i < m → reg_texts pairs p 1 i ++ reg_line p (i + 1) (get_or (take m pairs) i start_pair) ≡ reg_texts pairs p 1 (i + 1)
-one_reg m pairs p i below =
-    ap (λ (pair : Pair). reg_texts pairs p 1 i ++ reg_line p (i + 1) pair) (get_or-take m pairs i start_pair below)
-    ∙ ap (λ (y : ℕ). reg_texts pairs p 1 i ++ reg_line p (i + 1) (get_or pairs y start_pair)) (sym (before-one i))
+pub one_reg : (pairs : List Pair) (p i : ℕ) → reg_texts pairs p 1 i ++ reg_line p (i + 1) (get_or pairs i start_pair) ≡ reg_texts pairs p 1 (i + 1)
+one_reg pairs p i =
+    ap (λ (y : ℕ). reg_texts pairs p 1 i ++ reg_line p (i + 1) (get_or pairs y start_pair)) (sym (before-one i))
     ∙ lines_more (λ x. reg_line p x (get_or pairs (x - 1) start_pair)) (reg_texts pairs p) (λ x. refl) (λ x k. refl) i
 
--- what stands at a place of the first so many, whatever the default
-taken-at : {A : Type 0} (n : ℕ) (xs : List A) (i : ℕ) (d e : A) → i < length (take n xs) → get_or (take n xs) i d ≡ get_or xs i e
-taken-at n xs i d e within = get_or-take n xs i d (omega (arith, length-take n xs)) ∙ get_or_default xs i d e (omega (arith, length-take n xs))
-
-pub one-proc : (n : ℕ) (replicas : List Replica) (i : ℕ) (d : Replica) → i < length (take n replicas)
-    → proc_texts replicas 1 i ++ proc_line (i + 1) (get_or (take n replicas) i d) ≡ proc_texts replicas 1 (i + 1)
-one-proc n replicas i d within =
-    ap (λ (r : Replica). proc_texts replicas 1 i ++ proc_line (i + 1) r) (taken-at n replicas i d fresh_replica within)
+pub one-proc : (replicas : List Replica) (i : ℕ) (d : Replica) → i < length replicas
+    → proc_texts replicas 1 i ++ proc_line (i + 1) (get_or replicas i d) ≡ proc_texts replicas 1 (i + 1)
+one-proc replicas i d within =
+    ap (λ (r : Replica). proc_texts replicas 1 i ++ proc_line (i + 1) r) (get_or_default replicas i d fresh_replica within)
     ∙ ap (λ (y : ℕ). proc_texts replicas 1 i ++ proc_line (i + 1) (get_or replicas y fresh_replica)) (sym (before-one i))
     ∙ lines_more (λ p. proc_line p (get_or replicas (p - 1) fresh_replica)) (proc_texts replicas) (λ x. refl) (λ x k. refl) i
 
-pub one_store : (n : ℕ) (replicas : List Replica) (m i : ℕ) (d : Replica) → i < length (take n replicas)
-    → store_texts replicas m 1 i ++ reg_lines (get_or (take n replicas) i d) (i + 1) 1 m ≡ store_texts replicas m 1 (i + 1)
-one_store n replicas m i d within =
-    ap (λ (r : Replica). store_texts replicas m 1 i ++ reg_lines r (i + 1) 1 m) (taken-at n replicas i d fresh_replica within)
+pub one_store : (replicas : List Replica) (m i : ℕ) (d : Replica) → i < length replicas
+    → store_texts replicas m 1 i ++ reg_lines (get_or replicas i d) (i + 1) 1 m ≡ store_texts replicas m 1 (i + 1)
+one_store replicas m i d within =
+    ap (λ (r : Replica). store_texts replicas m 1 i ++ reg_lines r (i + 1) 1 m) (get_or_default replicas i d fresh_replica within)
     ∙ ap (λ (y : ℕ). store_texts replicas m 1 i ++ reg_lines (get_or replicas y fresh_replica) (i + 1) 1 m) (sym (before-one i))
     ∙ lines_more (λ p. reg_lines (get_or replicas (p - 1) fresh_replica) p 1 m) (store_texts replicas m) (λ x. refl) (λ x k. refl) i
 
--- the pairs of one of the first so many processes have short times
-pub short-taken : (n m : ℕ) (replicas : List Replica) (i : ℕ) (d : Replica) → i < length (take n replicas)
-    → ShortStores n m replicas → ShortPairs m (get_or (take n replicas) i d).pairs
-short-taken n m replicas i d within short =
-    subst (λ (r : Replica). ShortPairs m r.pairs) (sym (taken-at n replicas i d fresh_replica within)) (short i (omega (arith, length-take n replicas)))
+-- ---- one more of the first so many
+
+-- what stands at a place of them, whatever the default
+taken-at : {A : Type 0} (n : ℕ) (xs : List A) (i : ℕ) (d e : A) → i < length (take n xs) → get_or (take n xs) i d ≡ get_or xs i e
+taken-at n xs i d e within = get_or-take n xs i d (omega (arith, length-take n xs)) ∙ get_or_default xs i d e (omega (arith, length-take n xs))
+
+pub reg_taken : (m : ℕ) (pairs : List Pair) (p i : ℕ) → i < m → reg_texts pairs p 1 i ++ reg_line p (i + 1) (get_or (take m pairs) i start_pair) ≡ reg_texts pairs p 1 (i + 1)
+reg_taken m pairs p i below = ap (λ (pair : Pair). reg_texts pairs p 1 i ++ reg_line p (i + 1) pair) (get_or-take m pairs i start_pair below) ∙ one_reg pairs p i
+
+module _ (n : ℕ) (replicas : List Replica) (i : ℕ) (d : Replica) (within : i < length (take n replicas)) where
+  same-one : get_or (take n replicas) i d ≡ get_or replicas i fresh_replica
+  same-one = taken-at n replicas i d fresh_replica within
+
+  inside : i < length replicas
+  inside = omega (arith, within, length-take n replicas)
+
+  pub proc-taken : proc_texts replicas 1 i ++ proc_line (i + 1) (get_or (take n replicas) i d) ≡ proc_texts replicas 1 (i + 1)
+  proc-taken = ap (λ (r : Replica). proc_texts replicas 1 i ++ proc_line (i + 1) r) same-one ∙ one-proc replicas i fresh_replica inside
+
+  pub store-taken : (m : ℕ) → store_texts replicas m 1 i ++ reg_lines (get_or (take n replicas) i d) (i + 1) 1 m ≡ store_texts replicas m 1 (i + 1)
+  store-taken m = ap (λ (r : Replica). store_texts replicas m 1 i ++ reg_lines r (i + 1) 1 m) same-one ∙ one_store replicas m i fresh_replica inside
+
+  -- its pairs have short times
+  pub short-taken : (m : ℕ) → ShortStores n m replicas → ShortPairs m (get_or (take n replicas) i d).pairs
+  short-taken m short = subst (λ (r : Replica). ShortPairs m r.pairs) (sym same-one) (short i (omega (arith, within, length-take n replicas)))
 
 rows_both : (i : ℕ) (a b : List Row) → row_lines i (a ++ b) ≡ row_lines i a ++ row_lines (i + length a) b
 rows_both i [] b = let same : i ≡ i + 0 = omega arith in ap (λ (j : ℕ). row_lines j b) same

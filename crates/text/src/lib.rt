@@ -1,7 +1,6 @@
 // The text of a replay, written into a lent buffer.
 #![tactic(auto)]
 
-pub mod bytes;
 pub mod lines;
 mod listing;
 pub mod numbers;

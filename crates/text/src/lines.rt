@@ -6,9 +6,9 @@ ghost use Rattle.text.specs.Printed.{number, printed_refusal, proc_line};
 ghost use Rattle.text.specs.Short.{Short};
 ghost use Rattle.text.specs.Written.{Wrote};
 
-use crate::bytes::{NEWLINE, put_byte, put_word};
-use crate::numbers::{Number, put_small};
+use crate::numbers::Number;
 use crate::page::Page;
+use crate::refused::put_refused;
 use replica::Replica;
 use state::Bench;
 
@@ -16,9 +16,12 @@ pub fn put_refusal(buf: &mut [u8], at: usize, refusal: u8) -> usize
     requires { at + 14 ≤ length buf.old }
     ensures { Wrote at (printed_refusal refusal) 14 buf.old buf.new result }
 {
-    let a = put_word(&mut *buf, at, b"refused");
-    let b = put_small(&mut *buf, a, refusal as u16);
-    put_byte(&mut *buf, b, NEWLINE)
+    let mut page = Page {
+        bytes: buf,
+        used: at,
+    };
+    put_refused(&mut page, refusal);
+    page.used
 }
 
 // The first line: the bench, and the number of what stopped the run, 0 for the end.
@@ -53,7 +56,7 @@ pub fn put_proc_line(page: &mut Page<'_>, p: u8, replica: &Replica)
 }
 
 // A word and a number.
-fn put_named<N: Number>(page: &mut Page<'_>, word: &str, n: N)
+pub fn put_named<N: Number>(page: &mut Page<'_>, word: &str, n: N)
     requires { Room (length word.now + N.most) page.old }
     ensures { Adds (word.now ++ number (N.value n)) (length word.now + N.most) page.old page.new }
 {

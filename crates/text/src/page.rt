@@ -72,7 +72,7 @@ impl<'a> Page<'a> {
         self.put_decimal(widened);
     }
 
-    // A space, and a time, which has at most five digits.
+    // A space, and a time, which has at most five digits. Kept as a clause and no type: a `Time` is laid out as C has it (docs/DECISIONS.md), so any can be handed in.
     pub fn put_time(&mut self, time: Time)
         requires { Room 6 self.old × Short time.0 }
         ensures { Adds (number time.0) 6 self.old self.new }

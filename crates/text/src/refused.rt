@@ -8,7 +8,7 @@ ghost use Rattle.text.specs.Written.{Wrote};
 use crate::page::Page;
 use words::refusal::Refusal;
 
-// By its number: this document's, or that of another list of refusals.
+// By its number, which may be one of a history's (docs/JUDGING.md).
 pub fn put_refused(page: &mut Page<'_>, number: u8)
     requires { Room 14 page.old }
     ensures { Adds (printed_refusal number) 14 page.old page.new }

@@ -8,4 +8,4 @@ returns c =
     let rows = c.args.rows.now in
     let order = c.args.order.now in
     adds_text (parts_are rows order (length rows) (length order) refl refl) (omega arith)
-    (adds_next c.put_head.ensures (adds_next c.put_rows.ensures (adds_next c.put_number.ensures c.put_numbers.ensures)))
+    (adds_next c.put_head.ensures (adds_next c.put_rows.ensures c.put_order.ensures))

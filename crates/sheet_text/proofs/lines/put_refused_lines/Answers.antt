@@ -1,22 +1,22 @@
-use Rattle.std.proofs.Common.{◌≡◌, refl, ap, arith}
-use borrow.Author.Rules.{rules}
-use Rattle.text.specs.WrittenLaws.{nothing, and_next, as_text}
-use Rattle.sheet_text.specs.SheetText.{refused_lines}
+use Rattle.std.proofs.Common.{◌≡◌, ℕ, ◌+◌, ◌++◌, get_or, ap, ◌∙◌, arith}
+use Rattle.std.proofs.Math.ListN.{drop}
+use Rattle.std.proofs.lemmas.Grind.{get_or_after_one}
+use Rattle.std.proofs.lemmas.List.{get_or-take}
+use Rattle.text.specs.PagedLaws.{adds_next, adds_text}
+use Rattle.sheet_text.specs.SheetText.{refused_line, refused_lines}
 use Rattle.sheet_text.specs.TextLaws.{one-refused}
 use Rattle.sheet_text.proofs.lines.put_refused_lines.Goals as goal
 
-pub loop-i-init : goal.loop-i-init
-loop-i-init c = record { within = omega arith; long = refl; wrote = nothing c.args.at c.args.buf.now (omega arith) }
-
 pub loop-i-preserved : goal.loop-i-preserved
 loop-i-preserved c =
-    record {
-      within = omega arith;
-      long = search rules;
-      wrote = as_text (one-refused c.args.files c.loop-i.i) (omega arith) (and_next c.loop-i.invariant.wrote c.put_refused_line-next.ensures);
-    }
+    let files = c.args.files.now in
+    let i = c.loop-i.i in
+    let behind : 1 + i ≡ i + 1 = omega arith in
+    let read = get_or-take 31 (drop 1 files) i 0 (omega arith) ∙ get_or_after_one files i 0 ∙ ap (λ (k : ℕ). get_or files k 0) behind in
+    adds_text (ap (λ (n : ℕ). refused_lines files 1 i ++ refused_line (i + 1) n) read ∙ one-refused files i) (omega arith)
+    (adds_next c.loop-i.invariant c.put_refused_line.ensures)
 
 pub returns : goal.returns
 returns c =
     let all : c.loop-i.i ≡ 31 = omega arith in
-    as_text (ap (refused_lines c.args.files 1) all) (omega arith) c.loop-i.invariant.wrote
+    adds_text (ap (refused_lines c.args.files.now 1) all) (omega arith) c.loop-i.invariant

@@ -1,8 +1,0 @@
-use Rattle.std.proofs.Common.{refl, arith}
-use Rattle.text.specs.Printed.{printed_refusal}
-use Rattle.text.specs.WrittenLaws.{and_next, as_text}
-use Rattle.text.proofs.lines.put_refusal.Goals as goal
-
-pub returns : goal.returns
-unfolding printed_refusal
-returns c = as_text refl (omega arith) (and_next c.put_word-a.ensures (and_next c.put_small-b.ensures c.put_byte.ensures))
