@@ -34,6 +34,7 @@ fn ranged<'a>(opening: Opening<'a>, text: &[u8]) -> Result<Opening<'a>, NotCompo
 pub fn bench_in(text: &[u8]) -> Result<Opening<'_>, NotComposed>
     ensures { Opens text.now result }
 {
+    // The text behind the bench is handed on, so the lines are not lent to a `zip` with their numbers.
     let mut lines = Lines { rest: text };
     let mut line = 1;
     while let Some(next) = lines.next() {

@@ -8,14 +8,12 @@ ghost use Rattle.composing.specs.Passes.{surveyed, grown, line_bytes, events_in}
 ghost use Rattle.composing.specs.Script.{following};
 
 use crate::NotComposed;
-use format::file::HEAD;
+use format::file::{HEAD, LONGEST};
 use script::marks::Lines;
 use script::meaning::line_of;
 use script::{Fault, Line};
 use text::page::Page;
 use writing::events::{put_event, size_of};
-
-const LONGEST: usize = 65536;
 
 // The size of a file with one line more.
 fn grown(size: usize, line: &[u8]) -> Result<usize, Fault>
@@ -42,13 +40,11 @@ pub fn survey(text: &[u8], number: usize) -> Result<usize, NotComposed>
     ensures { result ≡ surveyed 7 (following number 7 (lines text.now)) }
 {
     let mut size = HEAD;
-    let mut line = number;
-    for next in (Lines { rest: text }) {
+    for (line, next) in (number..).zip(Lines { rest: text }) {
         match grown(size, next) {
             Ok(more) => size = more,
             Err(fault) => return Err(NotComposed::Wrong { line, fault }),
         }
-        line += 1;
     }
     Ok(size)
 }

@@ -1,7 +1,7 @@
 // The history file of a bench of ours, written into a lent buffer: what `verdicts` judges.
 #![tactic(auto)]
 
-ghost use Rattle.std.specs.Prelude.{◌+◌, ◌*◌, ◌≤◌, length};
+ghost use Rattle.std.specs.Prelude.{◌+◌, ◌*◌, ◌<◌, ◌≤◌, length};
 ghost use Rattle.text.specs.Paged.{Room, Adds};
 ghost use Rattle.verdicts.specs.File.{two, numbers_bytes};
 ghost use Rattle.histories.specs.OwnFile.{head_text, rows_text, order_text, file_of, Recorded};
@@ -25,14 +25,14 @@ fn put_number(page: &mut Page<'_>, n: u16)
 }
 
 // The length, the version and the count of rows.
-pub fn put_head(page: &mut Page<'_>, rows: usize, numbers: usize)
-    requires { Room 7 page.old × ((rows ≤ 1024) × (numbers ≤ 1024)) }
+pub fn put_head(page: &mut Page<'_>, rows: u16, numbers: u16)
+    requires { Room 7 page.old }
     ensures { Adds (head_text rows numbers) 7 page.old page.new }
 {
-    let size = FIXED_SIZE + ROW_SIZE * rows + NUMBER_SIZE * numbers;
+    let size = FIXED_SIZE + ROW_SIZE * rows as usize + NUMBER_SIZE * numbers as usize;
     page.put_bytes(&(size as u32).to_be_bytes());
     page.put_byte(VERSION);
-    put_number(page, rows as u16);
+    put_number(page, rows);
 }
 
 pub fn put_rows(page: &mut Page<'_>, rows: &[Row])
@@ -55,7 +55,7 @@ fn put_numbers(page: &mut Page<'_>, order: &[u16])
 
 // The count of row numbers, and the numbers.
 pub fn put_order(page: &mut Page<'_>, order: &[u16])
-    requires { Room (2 + 2 * length order.now) page.old × (length order.now ≤ 1024) }
+    requires { Room (2 + 2 * length order.now) page.old × (length order.now < 65536) }
     ensures { Adds (order_text (length order.now) order.now) (2 + 2 * length order.now) page.old page.new }
 {
     put_number(page, order.len() as u16);
@@ -66,7 +66,7 @@ fn put_file(page: &mut Page<'_>, rows: &[Row], order: &[u16])
     requires { Room 14345 page.old × ((length rows.now ≤ 1024) × (length order.now ≤ 1024)) }
     ensures { Adds (file_of rows.now order.now) 14345 page.old page.new }
 {
-    put_head(page, rows.len(), order.len());
+    put_head(page, rows.len() as u16, order.len() as u16);
     put_rows(page, rows);
     put_order(page, order);
 }

@@ -13,7 +13,7 @@ pub fn limits_of(b: Bench) -> Limits
     Limits {
         n: b.n,
         m: b.m,
-        accepted: b.accepted as u32,
+        accepted: u32::from(b.accepted),
         sent: b.sent,
     }
 }
@@ -24,6 +24,6 @@ pub fn counts_fit(b: Bench) -> bool
     is_within(b.n, PROCESSES)
         & is_within(b.m, REGISTERS)
         & (b.accepted <= EVENTS)
-        & (b.sent <= 7 * (b.accepted as u32))
-        & (b.sent as u64 == b.delivered as u64 + b.lost as u64 + b.flight as u64)
+        & (b.sent <= u32::from(PROCESSES) * u32::from(b.accepted))
+        & (u64::from(b.sent) == u64::from(b.delivered) + u64::from(b.lost) + u64::from(b.flight))
 }

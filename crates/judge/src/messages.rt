@@ -26,7 +26,7 @@ fn message_fits(l: Limits, m: Message) -> bool
     is_within(m.from.0, l.n)
         & is_within(m.to.0, l.n)
         & (m.time.0 <= l.accepted)
-        & (m.rid.0 as u64 <= 2 * (l.accepted as u64))
+        & (u64::from(m.rid.0) <= 2 * u64::from(l.accepted))
         & body_fits(l, m.body)
 }
 

@@ -7,7 +7,7 @@ use crate::Limits;
 use replica::Phase;
 use words::quorum::majority;
 
-// Responses that end a query phase.
+// Responses that end a query phase. A function beside `acks_needed`, since `Needed.antt` of `state` defines the two numbers apart.
 pub fn responses_needed(l: Limits) -> u8
     ensures { result ≡ responses_needed (limited l) }
 {

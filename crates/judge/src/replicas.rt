@@ -55,13 +55,13 @@ fn phase_fits(l: Limits, w: Waiting, phase: Phase, repliers: u8) -> bool
     match (phase, w) {
         (Phase::Idle, Waiting::Nothing) => repliers == 0,
         (Phase::Querying(row, gathered), Waiting::One(p)) => {
-            (p.row == row as usize)
+            (p.row == usize::from(row))
                 & !p.write
                 & pair_fits(gathered.best, l.accepted, l.n)
                 & (p.query == 0)
         }
         (Phase::Updating(row, sent), Waiting::One(p)) => {
-            (p.row == row as usize)
+            (p.row == usize::from(row))
                 & pair_fits(sent, l.accepted, l.n)
                 & (p.write | has_queried(l, p.query))
         }
@@ -74,10 +74,10 @@ fn replica_fits(l: Limits, w: Waiting, r: Replica) -> bool
     ensures { result ≡ replica_judged (limited l) w r }
 {
     (r.clock.0 <= l.accepted)
-        & (r.rid.0 as u64 <= 2 * (l.accepted as u64))
+        & (u64::from(r.rid.0) <= 2 * u64::from(l.accepted))
         & stored_fit(l, l.m, r.pairs)
         & repliers_fit(l.n, r.repliers)
-        & (size(r.repliers) < needed_in(l, r.phase) as u32)
+        & (size(r.repliers) < u32::from(needed_in(l, r.phase)))
         & phase_fits(l, w, r.phase, r.repliers)
 }
 

@@ -14,7 +14,7 @@ use words::ranges::repliers_fit;
 fn is_enough(l: Limits, least: u8, set: u8) -> bool
     ensures { result ≡ enough (limited l) least set }
 {
-    repliers_fit(l.n, set) & (least as u32 <= size(set))
+    repliers_fit(l.n, set) & (u32::from(least) <= size(set))
 }
 
 // One that ended a query phase.

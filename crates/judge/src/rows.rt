@@ -61,7 +61,7 @@ fn note(waiting: &mut [Waiting; 7], number: usize, r: Row)
     ensures { waiting.new ≡ noted_in waiting.old number r }
 {
     if is_pending(r) {
-        let at = (r.process.0 - 1) as usize;
+        let at = usize::from(r.process.0 - 1);
         let seen = waiting[at];
         waiting[at] = one_more(seen, number, r);
     }

@@ -4,7 +4,6 @@ ghost use Rattle.script.specs.Lines.{words};
 ghost use Rattle.script.specs.Meaning.{fields_of, meaning, line_of};
 ghost use Rattle.script.specs.Places.{Reads};
 
-use crate::heads::head_of;
 use crate::marks::{Words, cut};
 use crate::{Fault, Head, Line};
 use state::Event;
@@ -45,7 +44,7 @@ fn plain_line(line: &[u8]) -> Result<Line, Fault>
     let Some(first) = words.next() else {
         return Ok(Line::Blank);
     };
-    let says = fields_of(head_of(first)?, &mut words)?;
+    let says = fields_of(Head::try_from(first)?, &mut words)?;
     if words.next().is_some() {
         return Err(Fault::TooMany);
     }

@@ -7,9 +7,9 @@ ghost use Rattle.script.specs.Numbers.{is_number, value, figure_of, amount_of};
 use crate::Fault;
 
 // The greatest value, and how far below 0 the smallest one is.
-const MOST: u64 = 9223372036854775807;
+const MOST: u64 = i64::MAX as u64;
 
-const LEAST: u64 = 9223372036854775808;
+const LEAST: u64 = i64::MAX as u64 + 1;
 
 fn are_digits(word: &[u8]) -> bool
     ensures { result ≡ list_all is_ascii_digit word.now }
