@@ -1,5 +1,5 @@
 -- What the handlers' answers say of what is sent and of what has ended, whether they refuse or not.
-use Rattle.std.specs.Prelude.{ℕ, ◌≤◌, ◌≡◌, refl, Bool, true, false, cond, eqb, leb, ℤ}
+use Rattle.std.specs.Prelude.{ℕ, ◌≤◌, ◌≡◌, refl, Bool, true, false, cond, eqb, leb, ℤ, Some, None}
 use Rattle.std.proofs.Common.{arith}
 use Rattle.words.specs.declared.Body.{Body}
 use Rattle.words.specs.declared.Body.TheVariants.{Query, Response, Update, Ack}
@@ -9,21 +9,21 @@ use Rattle.words.specs.declared.Pid.{Pid}
 use Rattle.words.specs.declared.Rid.{Rid}
 use Rattle.words.specs.declared.Time.{Time}
 use Rattle.words.specs.Quorum.{joined, counted, majority_of}
-use Rattle.replica.specs.declared.Answer.{Answer}
+use Rattle.replica.specs.Answer.{Answer}
 use Rattle.replica.specs.declared.Gathered.{Gathered}
-use Rattle.replica.specs.declared.ResponseCounts.TheVariants.{Not, For}
-use Rattle.replica.specs.declared.AckCounts.TheVariants.{Not as NoAck, For as AckFor}
 use Rattle.replica.specs.declared.Ended.{Ended}
 use Rattle.replica.specs.declared.Ended.TheVariants.{Pending, Query as Queried, At}
 use Rattle.replica.specs.declared.Phase.{Phase}
 use Rattle.replica.specs.declared.Phase.TheVariants.{Idle, Querying, Updating}
 use Rattle.replica.specs.declared.Replica.{Replica}
 use Rattle.replica.specs.declared.Sends.TheVariants.{Nothing}
-use Rattle.replica.specs.Handlers.{refused, read_refusal, read_rule, read_begun, write_refusal, write_rule, write_begun, query_refusal, query_rule, query_received, update_refusal, update_rule, update_received}
+use Rattle.replica.specs.Handlers.{read_refusal, read_rule, read_begun, write_refusal, write_rule, write_begun, query_refusal, query_rule, query_received, update_refusal, update_rule, update_received}
+use Rattle.replica.specs.Answer.{refused}
 use Rattle.replica.specs.Handlers.{response_refusal, response_rule, response_received, response_counted, response_counts, response_taken, ack_refusal, ack_rule, ack_received, ack_counted, ack_counts, ack_taken, crash_refusal, crash_rule, crashed}
 use Rattle.replica.specs.Gathering.{gathered_with}
 use Rattle.replica.specs.Numbers.{sent_by}
-use Rattle.decide.specs.Plan.{answer_by, answer_to}
+use Rattle.state.specs.State.{State}
+use Rattle.state.specs.Step.{asked_register, heard, heard_by}
 use Rattle.advance.specs.Steps.{Mild}
 
 -- what holds of a rule's answer and of a refusal holds of the handler's
@@ -85,7 +85,7 @@ module _ (r : Replica) (n asked : ℕ) (from : Pid) (time : Time) (rid : Rid) (n
   response-taken (Updating number sent) pair = (tt, tt)
   response-taken (Querying number gathered) pair = go (eqb rid.0 r.rid.0)
     where
-      go : (u : Bool) → Right (Querying number gathered) (response_taken (cond u (For number gathered) Not) r n asked from time pair)
+      go : (u : Bool) → Right (Querying number gathered) (response_taken (cond u (Some (number, gathered)) None) r n asked from time pair)
       go true = response-counted number number (gathered_with gathered pair) gathered
       go false = (tt, tt)
 
@@ -104,7 +104,7 @@ module _ (r : Replica) (n asked : ℕ) (from : Pid) (time : Time) (rid : Rid) (n
   ack-taken (Querying number gathered) = (tt, tt)
   ack-taken (Updating number sent) = go (eqb rid.0 r.rid.0)
     where
-      go : (u : Bool) → Right (Updating number sent) (ack_taken (cond u (AckFor number sent) NoAck) r n from time)
+      go : (u : Bool) → Right (Updating number sent) (ack_taken (cond u (Some (number, sent)) None) r n from time)
       go true = ack-counted number number sent sent
       go false = (tt, tt)
 
@@ -112,11 +112,11 @@ module _ (r : Replica) (n asked : ℕ) (from : Pid) (time : Time) (rid : Rid) (n
   unfolding ack_received ack_rule
   ack-right = unless (Right r.phase) (eqb (ack_refusal r n from time rid) 0) (ack_refusal r n from time rid) r (ack_rule r n from time rid) (ack-taken r.phase) (tt, tt)
 
-pub answer-right : (n asked : ℕ) (r : Replica) (m : Message) → m.from.0 ≤ 7 → Right r.phase (answer_to n asked r m)
-answer-right n asked r m near = go m.body
+pub answer-right : (s : State) (r : Replica) (m : Message) → m.from.0 ≤ 7 → Right r.phase (heard s r m)
+answer-right s r m near = go m.body
   where
-    go : (x : Body) → Right r.phase (answer_by x n asked r m)
-    go (Query x) = query-right r n asked m.from m.time m.rid near x
-    go (Response pair) = response-right r n asked m.from m.time m.rid near pair
-    go (Update x pair) = update-right r n asked m.from m.time m.rid near x pair
-    go Ack = ack-right r n asked m.from m.time m.rid near
+    go : (x : Body) → Right r.phase (heard_by s r m x)
+    go (Query x) = query-right r s.n (asked_register s r.phase) m.from m.time m.rid near x
+    go (Response pair) = response-right r s.n (asked_register s r.phase) m.from m.time m.rid near pair
+    go (Update x pair) = update-right r s.n (asked_register s r.phase) m.from m.time m.rid near x pair
+    go Ack = ack-right r s.n (asked_register s r.phase) m.from m.time m.rid near

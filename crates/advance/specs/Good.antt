@@ -1,9 +1,7 @@
 -- What a state that is tabled gives, as facts: bounds of its counts, of the ends of its messages, and of the rows that its replicas point to.
-use Rattle.std.specs.Prelude.{ℕ, zero, suc, ◌+◌, ◌-◌, ◌*◌, ◌<◌, ◌≤◌, ◌≡◌, refl, Bool, true, false, not, cond, ◌&&◌, List, [], ◌∷◌, ◌++◌, eqb, leb, ltb, ℤ, pos, negsuc, get_or, take, drop, replicate}
-use Rattle.std.proofs.Common.{not-suc-le-zero, le_of_suc-le-suc, arith, sym, ap, subst, ◌∙◌, take-append-drop, length-take, length-drop}
+use Rattle.std.specs.Prelude.{ℕ, zero, suc, ◌+◌, ◌-◌, ◌*◌, ◌<◌, ◌≤◌, ◌≡◌, refl, Bool, true, false, not, cond, ◌&&◌, List, [], ◌∷◌, ◌++◌, eqb, leb, ltb, ℤ, pos, negsuc, length, get_or, take, drop, replicate}
+use Rattle.std.proofs.Common.{not-suc-le-zero, le_of_suc-le-suc, leb-true, eqb-true, le-leb, arith, sym, ap, subst, ◌∙◌, take-append-drop, length-take, length-drop}
 use Rattle.std.proofs.lemmas.Bool.{false≢true}
-use Rattle.std.proofs.Math.ListN.{length}
-use borrow.Author.Tests.{leb-true, eqb-true, le-leb}
 use Rattle.words.specs.declared.Body.{Body}
 use Rattle.words.specs.declared.Body.TheVariants.{Query, Response, Update, Ack}
 use Rattle.words.specs.declared.Message.{Message}
@@ -239,7 +237,7 @@ module _ (b : Bench) (messages : List Message) (rows : List Row) (t : tabled b m
   unfolding tabled Tests
   tests = all6 (lengths_fit messages rows) (leb b.flight 512) (leb b.rows 1024) (every is_empty_message (drop b.flight messages)) (every is_empty_row (drop b.rows rows)) (well_formed (view b messages rows)) t
 
-  lengths : (length messages ≡ 512) × (length rows ≡ 1024)
+  pub lengths : (length messages ≡ 512) × (length rows ≡ 1024)
   unfolding Tests
   lengths = let (a, c) = both (eqb (length messages) 512) (eqb (length rows) 1024) tests.0 in (eqb-true (length messages) 512 a, eqb-true (length rows) 1024 c)
 
@@ -251,10 +249,10 @@ module _ (b : Bench) (messages : List Message) (rows : List Row) (t : tabled b m
   unfolding Tests
   rows-most = leb-true b.rows 1024 tests.2
 
-  flight-count : length (take b.flight messages) ≡ b.flight
+  pub flight-count : length (take b.flight messages) ≡ b.flight
   flight-count = omega (arith, length-take b.flight messages, lengths.0, flight-most)
 
-  rows-count : length (take b.rows rows) ≡ b.rows
+  pub rows-count : length (take b.rows rows) ≡ b.rows
   rows-count = omega (arith, length-take b.rows rows, lengths.1, rows-most)
 
   pub held : Good (view b messages rows)
@@ -271,6 +269,3 @@ module _ (b : Bench) (messages : List Message) (rows : List Row) (t : tabled b m
 
   pub bench-is : b ≡ bench_of (view b messages rows)
   bench-is = rw (flight-count, rows-count)
-
-  pub message-count : length messages ≡ 512
-  message-count = lengths.0

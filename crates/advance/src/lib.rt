@@ -1,210 +1,109 @@
-// One event carried out on the bench and its two lent tables, with no test of well-formedness: gather, decide, carry.
+// One event carried out on the bench and its two lent tables, with no test of well-formedness: decide, carry.
 #![tactic(auto)]
 
-ghost use Rattle.std.specs.Prelude.{◌≡◌, true, ◌≤◌, ◌<◌, length, get_or};
-ghost use Rattle.tables.specs.Tables.{empty_row, copies, laid_at};
+ghost use Rattle.std.specs.Prelude.{◌≡◌, true, ◌≤◌, length};
 ghost use Rattle.state.specs.Tabled.{tabled};
-ghost use Rattle.advance.specs.Parts.{Bounded, wanted_of, message_found, sought_in, asked_in, known_of, work_of, dropped_if, carried_messages, carried_rows, Sound};
 ghost use Rattle.advance.specs.Advanced.{Advanced};
+ghost use Rattle.advance.specs.Parts.{Bounded, Takes, Posts, taken_off, left_of, posted_at, carried_rows, carried_bench, put_back};
+ghost use Rattle.state.specs.Stepped.{stepped};
 
+use decide::{Plan, View};
 use replica::Replica;
-use state::{Bench, Event, Stepped};
+use state::{Bench, Event};
 use tables::Row;
-use words::Message;
+use words::refusal::Refusal;
+use words::{Message, Pid};
 
-mod gather;
-mod plans;
-
-// What was found among the messages in flight: the place of the wanted number, and its message, the empty one where there is none.
-#[derive(Clone, Copy)]
-pub struct Sought {
-    pub found: Option<usize>,
-    pub message: Message,
-}
-
-// Whom an event concerns: a process and its replica, the place of the row that it points to, and whether an end of the message is down.
-#[derive(Clone, Copy)]
-pub struct Whose {
-    pub p: u8,
-    pub r: Replica,
-    pub row: usize,
-    pub down: bool,
-}
-
-// What was found, and the place of the row that the replica concerned points to.
-#[derive(Clone, Copy)]
-pub struct Asked {
-    pub found: Option<usize>,
-    pub message: Message,
-    pub at: usize,
-}
-
-// What was found, and that row.
-#[derive(Clone, Copy)]
-pub struct Known {
-    pub found: Option<usize>,
-    pub message: Message,
-    pub row: Row,
-}
-
-// What an accepted event of a kind adds to the counts, and whether it takes a message off.
-#[derive(Clone, Copy)]
-pub struct Tally {
-    pub rows: u16,
-    pub delivered: u32,
-    pub lost: u32,
-    pub takes: bool,
-}
-
-// What is to be done to the two tables, and the reply: of the `flight` messages the one `at` a place is taken off if `cut`, `count` messages
-// are laid `from` a place on, and a row is written at a `place`, which is past the end where none is.
-#[derive(Clone, Copy)]
-pub struct Work {
-    pub cut: bool,
-    pub at: usize,
-    pub flight: usize,
-    pub from: usize,
-    pub count: u8,
-    pub place: usize,
-    pub first: Message,
-    pub row: Row,
-    pub stepped: Stepped,
-}
-
-// The message at the place that was found, the empty one where none was.
-#[tactic(auto, unfolding(crate::specs::Parts::message_found))]
-fn message_found(t: &[Message], found: Option<usize>) -> Message
-    ensures { result ≡ message_found t.now found }
+// The message at a place is taken off the messages in flight, and so many are left.
+fn take(messages: &mut [Message], flight: usize, taken: Option<usize>) -> usize
+    requires { Takes taken flight × (flight ≤ length messages.old) }
+    ensures { (result ≡ left_of taken flight) × (messages.new ≡ taken_off taken flight messages.old) }
 {
-    let Some(place) = found else {
-        return tables::empty_message();
+    let Some(at) = taken else {
+        return flight;
     };
-    tables::message_at(t, place)
+    tables::take_off(messages, at, flight);
+    flight - 1
 }
 
-// The message of a number among the first n, and its place.
-fn seek_out(t: &[Message], n: usize, k: u32) -> Sought
-    requires { n ≤ length t.now }
-    ensures { result ≡ sought_in t.now n k }
+// What is sent is laid behind the messages in flight.
+fn post(messages: &mut [Message], flight: usize, posted: Option<(Message, u8)>)
+    requires { Posts flight posted (length messages.old) }
+    ensures { messages.new ≡ posted_at flight posted messages.old }
 {
-    let found = tables::find(t, n, k);
-    let message = message_found(t, found);
-    gather::sought_of(found, message)
-}
-
-// What an event looks for among the messages in flight.
-fn sought_for(t: &[Message], bench: Bench, event: Event) -> Sought
-    requires { bench.flight ≤ length t.now }
-    ensures { result ≡ sought_in t.now bench.flight (wanted_of event) }
-{
-    let n = gather::flight_of(bench);
-    let k = gather::wanted(event);
-    seek_out(t, n, k)
-}
-
-// What an event finds among the messages in flight, and which row it asks for.
-fn ask(t: &[Message], bench: Bench, event: Event) -> Asked
-    requires { (bench.flight ≤ length t.now) × (length bench.replicas ≡ 7) }
-    ensures { result ≡ asked_in bench event t.now }
-{
-    let s = sought_for(t, bench, event);
-    gather::asked_of(bench, event, s)
-}
-
-// And that row.
-fn learn(t: &[Row], a: Asked) -> Known
-    ensures { result ≡ known_of a (get_or t.now a.at empty_row) }
-{
-    let at = gather::row_place(a);
-    let row = tables::row_at(t, at);
-    gather::known_of(a, row)
-}
-
-// If so, one of the first n messages is taken off.
-fn drop_message(t: &mut [Message], cut: bool, at: usize, n: usize)
-    requires { (cut ≡ true → at < n) × (n ≤ length t.old) }
-    ensures { t.new ≡ dropped_if cut at n t.old }
-{
-    if cut {
-        tables::take_off(&mut *t, at, n);
+    if let Some((first, count)) = posted {
+        tables::post(messages, flight, count, first);
     }
 }
 
-// What the work takes off.
-fn cut_out(t: &mut [Message], w: Work)
-    requires { Sound w (length t.old) }
-    ensures { t.new ≡ dropped_if w.cut w.at w.flight t.old }
+fn write(rows: &mut [Row], row: Option<(usize, Row)>)
+    ensures { rows.new ≡ carried_rows row rows.old }
 {
-    let cut = plans::cut_in(w);
-    let at = plans::at_in(w);
-    let flight = plans::flight_in(w);
-    drop_message(&mut *t, cut, at, flight);
+    if let Some((place, row)) = row {
+        tables::put(rows, place, row);
+    }
 }
 
-// What the work sends.
-fn lay(t: &mut [Message], w: Work)
-    requires { Sound w (length t.old) }
-    ensures { t.new ≡ laid_at w.from (copies w.first w.count) t.old }
+fn put_back(mut replicas: [Replica; 7], replica: Option<(Pid, Replica)>) -> [Replica; 7]
+    ensures { result ≡ put_back replica replicas }
 {
-    let from = plans::from_in(w);
-    let count = plans::count_in(w);
-    let first = plans::first_in(w);
-    tables::post(&mut *t, from, count, first);
+    if let Some((p, r)) = replica {
+        tables::put(&mut replicas, p.0.saturating_sub(1) as usize, r);
+    }
+    replicas
 }
 
-// The work is carried out on the two tables.
-fn carry(messages: &mut [Message], rows: &mut [Row], w: Work)
-    requires { Sound w (length messages.old) }
-    ensures { (messages.new ≡ carried_messages w messages.old) × (rows.new ≡ carried_rows w rows.old) }
+// The bench after an accepted event, of whose messages in flight so many were left.
+fn moved(bench: Bench, event: Event, plan: Plan, left: usize) -> Bench
+    requires { Bounded bench × (left ≡ left_of plan.taken bench.flight) }
+    ensures { result ≡ carried_bench plan event bench }
 {
-    cut_out(&mut *messages, w);
-    lay(&mut *messages, w);
-    let place = plans::place_in(w);
-    let row = plans::row_in(w);
-    tables::put_row(&mut *rows, place, row);
+    let count = match plan.posted {
+        Some((_, count)) => count,
+        None => 0,
+    };
+    let next = Bench {
+        accepted: bench.accepted + 1,
+        sent: bench.sent + u32::from(count),
+        flight: left as u16 + u16::from(count),
+        replicas: put_back(bench.replicas, plan.replica),
+        ..bench
+    };
+    match event {
+        Event::Read(_, _) | Event::Write(_, _, _) => Bench {
+            rows: bench.rows + 1,
+            ..next
+        },
+        Event::Deliver(_) => Bench {
+            delivered: bench.delivered + 1,
+            ..next
+        },
+        Event::Crash(_) => next,
+        Event::Lose(_) => Bench {
+            lost: bench.lost + 1,
+            ..next
+        },
+    }
 }
 
-// The work is carried out, and the reply given.
-fn conclude(messages: &mut [Message], rows: &mut [Row], w: Work) -> Stepped
-    requires { Sound w (length messages.old) }
-    ensures { (result ≡ w.stepped)
-        × ((messages.new ≡ carried_messages w messages.old) × (rows.new ≡ carried_rows w rows.old)) }
-{
-    carry(&mut *messages, &mut *rows, w);
-    plans::stepped_in(w)
-}
-
-// What follows from what is known is carried out.
-fn act(messages: &mut [Message], rows: &mut [Row], bench: Bench, event: Event, k: Known) -> Stepped
-    requires { Bounded bench × Sound (work_of bench event k) (length messages.old) }
-    ensures { (result ≡ (work_of bench event k).stepped)
-        × ((messages.new ≡ carried_messages (work_of bench event k) messages.old)
-        × (rows.new ≡ carried_rows (work_of bench event k) rows.old)) }
-{
-    let w = plans::work_of(bench, event, k);
-    conclude(&mut *messages, &mut *rows, w)
-}
-
-// The rest of an event, for which this was asked: its row is learned, and what follows is carried out.
-fn pursue(
+// One event, carried out on the bench and the two tables that it is tabled in.
+pub fn advance(
     messages: &mut [Message],
     rows: &mut [Row],
     bench: Bench,
     event: Event,
-    asked: Asked,
-) -> Stepped
-    requires { (tabled bench messages.old rows.old ≡ true) × (asked ≡ asked_in bench event messages.old) }
-    ensures { Advanced bench event messages.old rows.old result messages.new rows.new }
-{
-    let k = learn(&*rows, asked);
-    act(&mut *messages, &mut *rows, bench, event, k)
-}
-
-// One event, carried out on the bench and the two tables that it is tabled in.
-pub fn advance(messages: &mut [Message], rows: &mut [Row], bench: Bench, event: Event) -> Stepped
+) -> Result<Bench, Refusal>
     requires { tabled bench messages.old rows.old ≡ true }
-    ensures { Advanced bench event messages.old rows.old result messages.new rows.new }
+    ensures { Advanced bench event messages.old rows.old (stepped bench result) messages.new rows.new }
 {
-    let asked = ask(&*messages, bench, event);
-    pursue(&mut *messages, &mut *rows, bench, event, asked)
+    let view = View {
+        bench: &bench,
+        flight: &messages[..bench.flight as usize],
+        rows: &rows[..bench.rows as usize],
+    };
+    let plan = view.plan_of(event)?;
+    let left = take(messages, bench.flight as usize, plan.taken);
+    post(messages, left, plan.posted);
+    write(rows, plan.row);
+    Ok(moved(bench, event, plan, left))
 }

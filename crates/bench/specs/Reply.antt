@@ -5,7 +5,7 @@ use Rattle.words.specs.declared.Message.{Message}
 use Rattle.tables.specs.declared.Row.{Row}
 use Rattle.state.specs.declared.Bench.{Bench}
 use Rattle.state.specs.declared.Event.{Event}
-use Rattle.state.specs.declared.Stepped.{Stepped}
+use Rattle.state.specs.Stepped.{Stepped}
 use Rattle.state.specs.State.{view, laid_messages, laid_rows}
 use Rattle.state.specs.Step.{step}
 use Rattle.state.specs.Tabled.{tabled, bench_of}

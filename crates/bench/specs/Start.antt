@@ -5,7 +5,7 @@ use Rattle.words.specs.Refusals.{number}
 use Rattle.words.specs.Limits.{most_flight, most_rows}
 use Rattle.words.specs.Ranges.{within}
 use Rattle.state.specs.declared.Bench.{Bench}
-use Rattle.state.specs.declared.Stepped.{Stepped}
+use Rattle.state.specs.Stepped.{Stepped}
 use Rattle.state.specs.State.{State, fresh_replica, fresh}
 use Rattle.state.specs.Step.{check}
 use Rattle.state.specs.Tabled.{bench_of}

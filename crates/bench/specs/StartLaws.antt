@@ -13,8 +13,8 @@ use Rattle.words.specs.RangeLaws.{and_left, and_right}
 use Rattle.tables.specs.declared.Row.{Row}
 use Rattle.tables.specs.Tables.{empty_message, empty_row}
 use Rattle.state.specs.declared.Bench.{Bench}
-use Rattle.state.specs.declared.Stepped.{Stepped}
-use Rattle.state.specs.State.{State, fresh}
+use Rattle.state.specs.Stepped.{Stepped}
+use Rattle.state.specs.State.{fresh}
 use Rattle.state.specs.Step.{check}
 use Rattle.state.specs.Tabled.{bench_of}
 use Rattle.bench.specs.Start.{no_bench, replied, started, started_by, start_refusal, starts, start_reply}
@@ -39,20 +39,6 @@ module _ (n m messages rows : ℕ) where
 
   pub rows-length : starts n m messages rows ≡ true → rows ≡ 1024
   rows-length e = eqb-true rows 1024 (and_right (eqb messages 512) (eqb rows 1024) (lengths e))
-
--- ---- the reply, from the number that the checks gave
-
-module _ (number k : ℕ) (e : number ≡ k) (s : State) where
-  tested : (t : Bool) → eqb number 0 ≡ t → cond (eqb k 0) (bench_of s) no_bench ≡ cond t (bench_of s) no_bench
-  tested t p = ap (λ (u : Bool). cond u (bench_of s) no_bench) (ap (λ (j : ℕ). eqb j 0) (sym e) ∙ p)
-
-  pub accepted-reply : eqb number 0 ≡ true → (bench : Bench) → bench ≡ bench_of s → replied 0 bench ≡ started_by k s
-  unfolding started_by
-  accepted-reply p bench f = ap (λ (j : ℕ). replied j bench) (sym (eqb-true number 0 p) ∙ e) ∙ ap (replied k) (f ∙ sym (tested true p))
-
-  pub refused-reply : eqb number 0 ≡ false → (bench : Bench) → bench ≡ bench_of (fresh 0 0) → replied number bench ≡ started_by k s
-  unfolding started_by
-  refused-reply p bench f = ap (λ (j : ℕ). replied j bench) e ∙ ap (replied k) (f ∙ sym (tested false p))
 
 -- ---- what is replied, and what the tables then hold
 

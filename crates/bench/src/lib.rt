@@ -5,6 +5,7 @@ ghost use Rattle.std.specs.Prelude.{◌≡◌, cond, length, replicate};
 ghost use Rattle.words.specs.Refusals.{refusal_number};
 ghost use Rattle.tables.specs.Tables.{empty_message, empty_row};
 ghost use Rattle.state.specs.State.{view};
+ghost use Rattle.state.specs.Stepped.{stepped};
 ghost use Rattle.state.specs.Tabled.{tabled};
 ghost use Rattle.standing.specs.Status.{statuses, downs, told};
 ghost use Rattle.bench.specs.Start.{start_refusal, starts, start_reply, started};
@@ -15,12 +16,12 @@ use advance::advance;
 use judge::is_tabled;
 use order::fill_order;
 use standing::{Status, standings_of};
-use state::{Bench, Event, Stepped};
+use state::{Bench, Event};
 use tables::{Row, clear_messages, clear_rows};
 use words::Message;
 use words::limits::{MESSAGE_PLACES, PROCESSES, REGISTERS, ROW_PLACES};
 use words::ranges::is_within;
-use words::refusal::{NOT_FORMED, Refusal};
+use words::refusal::Refusal;
 
 pub mod fresh;
 
@@ -64,16 +65,13 @@ pub fn status(b: Bench, messages: &[Message], rows: &[Row]) -> Result<[Status; 7
 }
 
 // One event. A refused one changes nothing.
-pub fn step(b: Bench, event: Event, messages: &mut [Message], rows: &mut [Row]) -> Stepped
-    ensures { (result ≡ step_reply b event messages.old rows.old)
+pub fn step(b: Bench, event: Event, messages: &mut [Message], rows: &mut [Row]) -> Result<Bench, Refusal>
+    ensures { (stepped b result ≡ step_reply b event messages.old rows.old)
         × ((messages.new ≡ step_messages b event messages.old rows.old)
         × (rows.new ≡ step_rows b event messages.old rows.old)) }
 {
     if !is_tabled(b, messages, rows) {
-        return Stepped {
-            refusal: NOT_FORMED,
-            bench: b,
-        };
+        return Err(Refusal::NotFormed);
     }
     advance(messages, rows, b, event)
 }

@@ -16,7 +16,10 @@ use words::{Pid, Stamp, Time};
 pub fn wagonmoth_replay(bytes: &[u8], out: &mut [u8]) -> usize
     ensures { (result ≡ replay_reply bytes.now out.old) × (out.new ≡ replay_left bytes.now out.old) }
 {
-    replaying::replay(bytes, &mut *out)
+    match replaying::replay(bytes, out) {
+        Ok(size) => size,
+        Err(_) => 0,
+    }
 }
 
 // No text of a replay is longer.

@@ -6,7 +6,7 @@ use std::io;
 
 fn show(rt: &impl Print, bytes: &[u8]) -> io::Result<()> {
     let mut text = [0u8; LONGEST_TEXT];
-    let written = replaying::replay(bytes, &mut text);
+    let written = replaying::replay(bytes, &mut text).unwrap();
     rt.write_all(&text[..written])
 }
 

@@ -10,7 +10,7 @@ use Rattle.words.specs.declared.Pair.{Pair}
 use Rattle.words.specs.declared.Time.{Time}
 use Rattle.words.specs.declared.Body.TheVariants.{Query, Response, Update, Ack as Acked}
 use Rattle.words.specs.Stamps.{newer}
-use Rattle.replica.specs.declared.Answer.{Answer}
+use Rattle.replica.specs.Answer.{Answer}
 use Rattle.replica.specs.declared.Ended.TheVariants.{Pending}
 use Rattle.replica.specs.declared.Gathered.{Gathered}
 use Rattle.replica.specs.declared.Phase.TheVariants.{Idle, Querying, Updating}
@@ -18,7 +18,8 @@ use Rattle.replica.specs.declared.Replica.{Replica}
 use Rattle.replica.specs.declared.Sends.{Sends}
 use Rattle.replica.specs.declared.Sends.TheVariants.{Nothing, Reply, Broadcast}
 use Rattle.replica.specs.Gathering.{nothing_gathered, gathered_with}
-use Rattle.replica.specs.Handlers.{accepted, stored}
+use Rattle.replica.specs.Handlers.{stored}
+use Rattle.replica.specs.Answer.{accepted}
 use Rattle.tables.specs.declared.Row.{Row}
 use Rattle.tables.specs.Tables.{empty_message, removed, copies, following}
 use Rattle.state.specs.declared.Event.{Event}

@@ -1,3 +1,2 @@
 -- What a reader has to believe of this crate: how an event is planned
-pub mod Checks
 pub mod Plan

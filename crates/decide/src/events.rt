@@ -1,168 +1,147 @@
 // The plan of each event.
-ghost use Rattle.std.specs.Prelude.{◌≡◌, ◌≤◌};
-ghost use Rattle.decide.specs.Plan.{quiet_plan, refused_plan, settled, accepted_plan, read_plan, write_plan, deliver_plan, crash_plan, lose_plan, plan_of};
+ghost use Rattle.std.specs.Prelude.{◌≡◌, false};
+ghost use Rattle.replica.specs.Answer.{answer, answered};
+ghost use Rattle.tables.specs.Tables.{seek};
+ghost use Rattle.state.specs.State.{replica_of};
+ghost use Rattle.state.specs.Step.{full, heard};
+ghost use Rattle.decide.specs.Plan.{seen, numbered, accepted_plan, checked, begun, invoke_plan, deliver_plan, crash_plan, lose_plan, plan_of};
 
-use crate::deliver::answer_to;
-use crate::{Counters, Plan, checks, rows, sends};
-use replica::{Answer, Replica, phases};
+use crate::checks::is_over;
+use crate::{Plan, View, rows};
+use replica::{Handled, Replica};
 use state::Event;
 use tables::Row;
-use words::{Message, Pid};
+use words::refusal::Refusal;
+use words::{Body, Message, Pid};
 
-// The place of a plan that takes no message off.
-const NO_PLACE: usize = 0;
-
-// Nothing but the message at a place is touched, and that where it is not refused.
-fn quiet_plan(number: u8, at: usize, r: Replica) -> Plan
-    ensures { result ≡ quiet_plan number at r }
+fn begin(r: Replica, p: Pid, x: u8, number: u16, written: Option<i64>) -> Result<Handled, Refusal>
+    ensures { answer r result ≡ begun r p x number written }
 {
-    Plan {
-        refusal: number,
-        replica: r,
-        at: at,
-        count: 0,
-        first: tables::empty_message(),
-        number: 0,
-        row: tables::empty_row(),
+    match written {
+        None => r.begin_read(x, number),
+        Some(value) => r.begin_write(p, x, value, number),
     }
 }
 
-fn refused_plan(number: u8, r: Replica) -> Plan
-    ensures { result ≡ refused_plan number r }
-{
-    quiet_plan(number, NO_PLACE, r)
-}
-
-fn accepted_plan(c: Counters, p: u8, at: usize, answer: Answer, number: u16, row: Row) -> Plan
-    requires { c.sent ≤ 84000 }
-    ensures { result ≡ accepted_plan c p at answer number row }
-{
-    let next = answer.replica;
-    let sends = answer.sends;
-    let count = sends::count_of(c.n, sends);
-    let first = sends::first_of(c.sent + 1, p, sends);
-    Plan {
-        refusal: 0,
-        replica: next,
-        at: at,
-        count: count,
-        first: first,
-        number: number,
-        row: row,
+impl View<'_> {
+    // Process p's replica; a fresh one where there is none.
+    fn replica(self, p: Pid) -> Replica
+        ensures { result ≡ replica_of (seen self.entry) p.0 }
+    {
+        let place = usize::from(p.0.saturating_sub(1));
+        self.bench.replicas.get(place).copied().unwrap_or_default()
     }
-}
 
-fn settle(number: u8, r: Replica, plan: Plan) -> Plan
-    ensures { result ≡ settled number r plan }
-{
-    if number == 0 {
-        plan
-    } else {
-        refused_plan(number, r)
+    // What p's handler says is carried out, the message that it answers is taken off, if it answers one, and a row is written.
+    fn accept(
+        self,
+        p: Pid,
+        taken: Option<usize>,
+        handled: Handled,
+        row: Option<(usize, Row)>,
+    ) -> Plan
+        ensures { result ≡ accepted_plan (seen self.entry) p taken (answered handled) row }
+    {
+        Plan {
+            replica: Some((p, handled.replica)),
+            taken,
+            posted: self.posted_by(p, handled.sends),
+            row,
+        }
     }
-}
 
-#[tactic(auto, unfolding(crate::specs::Plan::read_plan))]
-fn read_plan(c: Counters, p: u8, x: u8, r: Replica) -> Plan
-    requires { (c.sent ≤ 84000) × (c.rows ≤ 1024) }
-    ensures { result ≡ read_plan c p x r }
-{
-    let number = c.rows + 1;
-    let phase = r.phase;
-    let idle = phases::is_idle(phase);
-    let answer = r.begin_read(x, number);
-    let refusal = checks::invoke_checks(c, p, x, r.crashed, idle, answer.refusal);
-    let next = answer.replica;
-    let clock = next.clock;
-    let row = rows::read_row(p, x, clock);
-    settle(
-        refusal,
-        r,
-        accepted_plan(c, p, NO_PLACE, answer, number, row),
-    )
-}
+    // An operation begins: a read, or the write of a value.
+    #[tactic(auto, unfolding(crate::specs::Plan::invoke_plan))]
+    fn invoke_plan(self, p: Pid, x: u8, written: Option<i64>) -> Result<Plan, Refusal>
+        requires { full (seen self) ≡ false }
+        ensures { numbered result ≡ invoke_plan (seen self.entry) p x written }
+    {
+        let r = self.replica(p);
+        self.may_invoke(p, x, r)?;
+        let number = self.rows.len() as u16 + 1;
+        let handled = begin(r, p, x, number, written)?;
+        let row = rows::begun_row(p, x, handled.replica.clock, written);
+        Ok(self.accept(p, None, handled, Some((self.rows.len(), row))))
+    }
 
-#[tactic(auto, unfolding(crate::specs::Plan::write_plan))]
-fn write_plan(c: Counters, p: u8, x: u8, value: i64, r: Replica) -> Plan
-    requires { (c.sent ≤ 84000) × (c.rows ≤ 1024) }
-    ensures { result ≡ write_plan c p x value r }
-{
-    let number = c.rows + 1;
-    let phase = r.phase;
-    let idle = phases::is_idle(phase);
-    let answer = r.begin_write(Pid(p), x, value, number);
-    let refusal = checks::invoke_checks(c, p, x, r.crashed, idle, answer.refusal);
-    let next = answer.replica;
-    let clock = next.clock;
-    let row = rows::write_row(p, x, value, clock);
-    settle(
-        refusal,
-        r,
-        accepted_plan(c, p, NO_PLACE, answer, number, row),
-    )
-}
+    // What the recipient answers to a message.
+    fn heard(self, r: Replica, message: Message) -> Result<Handled, Refusal>
+        ensures { answer r result ≡ heard (seen self.entry) r message }
+    {
+        let asked = self.asked_register(r.phase);
+        let sender = message.sender();
+        match message.body {
+            Body::Query(x) => r.query_received(sender, x),
+            Body::Response(pair) => r.response_received(self.bench.n, asked, sender, pair),
+            Body::Update(x, pair) => r.update_received(sender, x, pair),
+            Body::Ack => r.ack_received(self.bench.n, sender),
+        }
+    }
 
-#[tactic(auto, unfolding(crate::specs::Plan::deliver_plan))]
-fn deliver_plan(c: Counters, found: Option<usize>, message: Message, r: Replica, row: Row) -> Plan
-    requires { c.sent ≤ 84000 }
-    ensures { result ≡ deliver_plan c found message r row }
-{
-    let Some(place) = found else {
-        return refused_plan(checks::missing_checks(c), r);
-    };
-    let phase = r.phase;
-    let asked = rows::asked_of(phase, row);
-    let answer = answer_to(c.n, asked, r, message);
-    let sends = answer.sends;
-    let ended = answer.ended;
-    let count = sends::count_of(c.n, sends);
-    let refusal = checks::deliver_checks(c, r.crashed, count, answer.refusal);
-    let number = rows::number_by(ended, phases::pointed_by(phase));
-    let to = message.to;
-    let plan = accepted_plan(c, to.0, place, answer, number, rows::row_by(ended, row));
-    settle(refusal, r, plan)
-}
+    #[tactic(auto, using(crate::proofs::FoundLaws::found_within), unfolding(crate::specs::Plan::deliver_plan))]
+    fn deliver_plan(self, k: u32) -> Result<Plan, Refusal>
+        requires { full (seen self) ≡ false }
+        ensures { numbered result ≡ deliver_plan (seen self.entry) (seek k 0 (seen self.entry).flight) }
+    {
+        let at = tables::find(self.flight, self.flight.len(), k).ok_or(Refusal::NoMessage)?;
+        let message = self.flight[at];
+        let r = self.replica(message.to);
+        if r.crashed {
+            return Err(Refusal::RecipientCrashed);
+        }
+        let answer = self.heard(r, message);
+        let left = self.flight.len().saturating_sub(1);
+        if is_over(left + usize::from(self.count_of(answer))) {
+            return Err(Refusal::NoRoom);
+        }
+        let handled = answer?;
+        let row = self.written_by(r.phase, handled.ended);
+        Ok(self.accept(message.to, Some(at), handled, row))
+    }
 
-#[tactic(auto, unfolding(crate::specs::Plan::crash_plan))]
-fn crash_plan(c: Counters, p: u8, r: Replica) -> Plan
-    requires { c.sent ≤ 84000 }
-    ensures { result ≡ crash_plan c p r }
-{
-    let answer = r.crash();
-    let refusal = checks::crash_checks(c, p, r.crashed, answer.refusal);
-    let row = tables::empty_row();
-    settle(refusal, r, accepted_plan(c, p, NO_PLACE, answer, 0, row))
-}
+    #[tactic(auto, unfolding(crate::specs::Plan::crash_plan))]
+    fn crash_plan(self, p: Pid) -> Result<Plan, Refusal>
+        requires { full (seen self) ≡ false }
+        ensures { numbered result ≡ crash_plan (seen self.entry) p }
+    {
+        let r = self.replica(p);
+        self.may_crash(p, r)?;
+        let handled = r.crash()?;
+        Ok(self.accept(p, None, handled, None))
+    }
 
-// A lost message changes no replica: the plan only says whether it may be lost, and from which place.
-#[tactic(auto, unfolding(crate::specs::Plan::lose_plan))]
-fn lose_plan(c: Counters, found: Option<usize>, down: bool, r: Replica) -> Plan
-    ensures { result ≡ lose_plan c found down r }
-{
-    let Some(place) = found else {
-        return refused_plan(checks::missing_checks(c), r);
-    };
-    quiet_plan(checks::lose_checks(c, down), place, r)
-}
+    // A lost message changes no replica.
+    #[tactic(auto, using(crate::proofs::FoundLaws::found_within), unfolding(crate::specs::Plan::lose_plan))]
+    fn lose_plan(self, k: u32) -> Result<Plan, Refusal>
+        requires { full (seen self) ≡ false }
+        ensures { numbered result ≡ lose_plan (seen self.entry) (seek k 0 (seen self.entry).flight) }
+    {
+        let at = tables::find(self.flight, self.flight.len(), k).ok_or(Refusal::NoMessage)?;
+        let message = self.flight[at];
+        if !self.replica(message.from).crashed & !self.replica(message.to).crashed {
+            return Err(Refusal::BothUp);
+        }
+        Ok(Plan {
+            replica: None,
+            taken: Some(at),
+            posted: None,
+            row: None,
+        })
+    }
 
-#[tactic(auto, unfolding(crate::specs::Plan::plan_of))]
-pub fn plan_of(
-    c: Counters,
-    event: Event,
-    found: Option<usize>,
-    message: Message,
-    down: bool,
-    r: Replica,
-    row: Row,
-) -> Plan
-    requires { (c.sent ≤ 84000) × (c.rows ≤ 1024) }
-    ensures { result ≡ plan_of c event found message down r row }
-{
-    match event {
-        Event::Read(p, x) => read_plan(c, p.0, x, r),
-        Event::Write(p, x, value) => write_plan(c, p.0, x, value, r),
-        Event::Deliver(_) => deliver_plan(c, found, message, r, row),
-        Event::Crash(p) => crash_plan(c, p.0, r),
-        Event::Lose(_) => lose_plan(c, found, down, r),
+    #[tactic(auto, using(crate::proofs::FullLaws::full_first), unfolding(crate::specs::Plan::plan_of))]
+    pub fn plan_of(self, event: Event) -> Result<Plan, Refusal>
+        ensures { numbered result ≡ plan_of (seen self.entry) event }
+    {
+        if self.is_full() {
+            return Err(Refusal::Full);
+        }
+        match event {
+            Event::Read(p, x) => self.invoke_plan(p, x, None),
+            Event::Write(p, x, value) => self.invoke_plan(p, x, Some(value)),
+            Event::Deliver(k) => self.deliver_plan(k),
+            Event::Crash(p) => self.crash_plan(p),
+            Event::Lose(k) => self.lose_plan(k),
+        }
     }
 }

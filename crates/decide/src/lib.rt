@@ -1,37 +1,36 @@
-// What an event does, decided by value: from the counts, the one replica that it concerns, and what was gathered from the tables, to a plan.
-// All rules and all branches of the bench stand here; whoever holds the tables only gathers and carries.
+// What an event does, decided from the bench and what is in use of its two tables: a plan, or the refusal. All rules and all branches of the
+// bench stand here; whoever holds the tables only carries the plan out.
 #![tactic(auto)]
 
+ghost use Rattle.std.specs.Prelude.{◌≤◌, length};
+
 use replica::Replica;
+use state::Bench;
 use tables::Row;
-use words::Message;
+use words::{Message, Pid};
 
 mod checks;
-mod deliver;
 pub mod events;
 mod rows;
 mod sends;
 
-// The counts that the checks look at.
+// The state that is looked at: the counts and the replicas, the messages in flight, and the rows of the history. It has numbers left for one more
+// event's messages, and for one more row.
 #[derive(Clone, Copy)]
-pub struct Counters {
-    pub n: u8,
-    pub m: u8,
-    pub accepted: u16,
-    pub sent: u32,
-    pub flight: u16,
-    pub rows: u16,
+pub struct View<'a> {
+    pub bench: &'a Bench,
+    pub flight: &'a [Message],
+    pub rows: &'a [Row],
+    pub ghost messages_numbered: { bench.now.sent ≤ 84000 },
+    pub ghost rows_numbered: { length rows.now ≤ 1024 },
 }
 
-// What is to be carried out: nothing where it is refused. The replica takes its place again, the message `at` a place is taken off if the event
-// takes one, `count` messages follow from `first` on, and the row of this number, if it is not 0, is written.
+// What is to be carried out: the replica of a process that takes its step; the message at a place, which is taken off; a message that is sent,
+// and how many with it, one number and one process further each; and the row at a place, which is written.
 #[derive(Clone, Copy)]
 pub struct Plan {
-    pub refusal: u8,
-    pub replica: Replica,
-    pub at: usize,
-    pub count: u8,
-    pub first: Message,
-    pub number: u16,
-    pub row: Row,
+    pub replica: Option<(Pid, Replica)>,
+    pub taken: Option<usize>,
+    pub posted: Option<(Message, u8)>,
+    pub row: Option<(usize, Row)>,
 }

@@ -1,44 +1,55 @@
 // What a handler sends, as messages: how many, and the first of them.
 ghost use Rattle.std.specs.Prelude.{◌≡◌};
-ghost use Rattle.decide.specs.Plan.{first_of};
+ghost use Rattle.replica.specs.Answer.{answer as answer_of};
 ghost use Rattle.replica.specs.Numbers.{sent_by};
+ghost use Rattle.replica.specs.declared.Replica.{Replica};
 ghost use Rattle.state.specs.Step.{message_of};
+ghost use Rattle.decide.specs.Plan.{seen, posted_by};
 
-use replica::{Letter, Sends};
+use crate::View;
+use replica::{Handled, Letter, Sends};
+use words::refusal::Refusal;
 use words::{Message, Pid};
 
-pub fn count_of(n: u8, sends: Sends) -> u8
-    ensures { result ≡ sent_by n sends }
+fn message_of(number: u32, from: Pid, to: Pid, letter: Letter) -> Message
+    ensures { result ≡ message_of number from.0 to.0 letter }
 {
-    match sends {
-        Sends::Nothing => 0,
-        Sends::Reply(_, _) => 1,
-        Sends::Broadcast(_) => n,
-    }
-}
-
-fn message_of(number: u32, from: u8, to: u8, letter: Letter) -> Message
-    ensures { result ≡ message_of number from to letter }
-{
-    let time = letter.time;
-    let rid = letter.rid;
-    let body = letter.body;
     Message {
-        number: number,
-        from: Pid(from),
-        to: Pid(to),
-        time: time,
-        rid: rid,
-        body: body,
+        number,
+        from,
+        to,
+        time: letter.time,
+        rid: letter.rid,
+        body: letter.body,
     }
 }
 
-pub fn first_of(number: u32, from: u8, sends: Sends) -> Message
-    ensures { result ≡ first_of number from sends }
-{
-    match sends {
-        Sends::Nothing => tables::empty_message(),
-        Sends::Reply(to, letter) => message_of(number, from, to.0, letter),
-        Sends::Broadcast(letter) => message_of(number, from, 1, letter),
+impl View<'_> {
+    // How many messages an answer sends; a refusal sends none.
+    pub(crate) fn count_of(self, answer: Result<Handled, Refusal>) -> u8
+        ensures { (r : Replica) → result ≡ sent_by (seen self.entry).n (answer_of r answer).sends }
+    {
+        match answer {
+            Ok(handled) => match handled.sends {
+                Sends::Nothing => 0,
+                Sends::Reply(_, _) => 1,
+                Sends::Broadcast(_) => self.bench.n,
+            },
+            Err(_) => 0,
+        }
+    }
+
+    // The first message, and how many there are.
+    pub(crate) fn posted_by(self, from: Pid, sends: Sends) -> Option<(Message, u8)>
+        ensures { result ≡ posted_by (seen self.entry) from sends }
+    {
+        let number = self.bench.sent + 1;
+        match sends {
+            Sends::Nothing => None,
+            Sends::Reply(to, letter) => Some((message_of(number, from, to, letter), 1)),
+            Sends::Broadcast(letter) => {
+                Some((message_of(number, from, Pid(1), letter), self.bench.n))
+            }
+        }
     }
 }

@@ -3,7 +3,7 @@ use Rattle.std.specs.Prelude.{ℕ, false, List, [], ◌∷◌, map, ℤ, pos, re
 use Rattle.words.specs.declared.Pair.{Pair}
 use Rattle.words.specs.declared.Stamp.{Stamp}
 use Rattle.words.specs.Stamps.{stamp_of, start_pair}
-use Rattle.replica.specs.declared.Answer.{Answer}
+use Rattle.replica.specs.Answer.{Answer}
 use Rattle.replica.specs.declared.Phase.TheVariants.{Idle}
 use Rattle.replica.specs.declared.Replica.{Replica}
 use Rattle.replica.specs.Handlers.{update_received}

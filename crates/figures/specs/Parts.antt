@@ -1,14 +1,15 @@
 -- What the functions inside promise and ask: what one row comes to, and sums that stay within 64 bits.
 use Rattle.std.specs.Prelude.{ℕ, ◌+◌, ◌≤◌, ◌<◌, ◌^◌, Bool, cond, ◌&&◌, [], ◌∷◌, eqb, get_or}
+use Rattle.words.specs.declared.refusal.Refusal.{Refusal}
+use Rattle.words.specs.Refusals.{number}
 use Rattle.state.specs.declared.Bench.{Bench}
-use Rattle.state.specs.declared.Stepped.{Stepped}
 use Rattle.figures.specs.declared.Entry.{Entry}
 use Rattle.figures.specs.declared.Sheet.{Sheet}
 use Rattle.figures.specs.declared.Operations.{Operations}
 use Rattle.figures.specs.declared.Waits.{Waits}
 use Rattle.figures.specs.declared.History.{History}
 use Rattle.figures.specs.declared.Traffic.{Traffic}
-use Rattle.figures.specs.Figures.{one, figures_of}
+use Rattle.figures.specs.Figures.{one, figures_of, history_of, no_traffic}
 
 -- ---- one row
 
@@ -65,13 +66,13 @@ pub record SheetRoom (sheet : Sheet) (e : Entry) : Type 0 where
   pub history : HistoryRoom sheet.history e.history
   pub traffic : TrafficRoom sheet.traffic e.traffic
 
--- ---- what a run adds, from the bench that it left. A file that starts none leaves one of 0 processes
-
-abbrev pub file_number : ℕ → ℕ → ℕ
-file_number refusal n = cond (eqb n 0) refusal 0
+-- ---- what one schedule adds: a run, from the bench that it left, or the number of a file that starts none
 
 abbrev pub bench_traffic : Bench → Traffic
 bench_traffic b = record { sent = b.sent; delivered = b.delivered; lost = b.lost; left = b.flight }
 
-abbrev pub entry_of : Stepped → History → Entry
-entry_of ran history = record { refusal = file_number ran.refusal ran.bench.n; history = history; traffic = bench_traffic ran.bench }
+abbrev pub run_entry : Bench → History → Entry
+run_entry b history = record { refusal = 0; history = history; traffic = bench_traffic b }
+
+abbrev pub refused_entry : Refusal → Entry
+refused_entry e = record { refusal = number e; history = history_of []; traffic = no_traffic }

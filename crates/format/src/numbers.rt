@@ -1,4 +1,5 @@
-// Numbers of several bytes, big-endian. A value is two's complement.
+// Numbers of several bytes, big-endian. A value is two's complement. By index: std has no array of a shared slice's first bytes, and
+// `try_into().unwrap()` of a range is no plainer.
 ghost use Rattle.std.specs.Prelude.{◌≡◌, ◌+◌, ◌≤◌, length};
 ghost use Rattle.format.specs.Format.{word_at, value_of};
 

@@ -5,13 +5,14 @@ use format::file::LONGEST;
 use recording::LONGEST_FILE;
 use std::io;
 
-const USAGE: &str = "history < FILE\nWrites the history file of the schedule in FILE. The form is in docs/JUDGING.md.";
+const USAGE: &str =
+    "history < FILE\nWrites the history file of the schedule in FILE. The form is in docs/JUDGING.md.";
 
 fn main(rt: HostRuntime) -> io::Result<()> {
     let mut bytes = [0u8; LONGEST + 1];
     let mut file = [0u8; LONGEST_FILE];
     input::run(&rt, USAGE, &mut bytes, |schedule| {
-        let written = recording::history(schedule, &mut file);
+        let written = recording::history(schedule, &mut file).unwrap();
         input::say(&rt, "history: the file", &file[..written])
     })
 }

@@ -1,4 +1,4 @@
--- What a run over a table of 512 messages says of its file, from whether its bench has processes; and that the text which is written from it is the file's.
+-- What a run over a table of 512 messages says of its file, from whether it says that the file starts a bench; and that the text which is written from it is the file's.
 use Rattle.std.specs.Prelude.{ℕ, ◌+◌, ◌-◌, ◌*◌, ◌≤◌, ◌<◌, ◌≡◌, Bool, true, false, List, [], ◌∷◌, ◌++◌, eqb, length, take, get_or, replicate}
 use Rattle.std.proofs.Math.Path.{refl, ap}
 use Rattle.std.proofs.Common.{sym, subst, ◌∙◌, append_assoc, append-nil, arith, length-append, length-take, eqb-true}
@@ -8,11 +8,9 @@ use Rattle.std.proofs.lemmas.List.{length-replicate, take_more}
 use Rattle.words.specs.declared.Message.{Message}
 use Rattle.tables.specs.declared.Row.{Row}
 use Rattle.tables.specs.Tables.{empty_message}
-use Rattle.state.specs.declared.Stepped.{Stepped}
+use Rattle.state.specs.Stepped.{Stepped}
 use Rattle.state.specs.State.{State, laid_messages}
 use Rattle.state.specs.Tabled.{bench_of}
-use Rattle.state.proofs.WellLaws.{well}
-use Rattle.state.proofs.Keeps.{reached-well-formed}
 use Rattle.state.proofs.Sized.{reached-sized}
 use Rattle.state.specs.Reached.{Reached}
 use Rattle.bench.specs.Start.{no_bench, replied}
@@ -93,25 +91,14 @@ module _ (bytes : List ℕ) (messages : List Message) (long : length messages �
       let count : r.bench.flight ≡ length stopped.flight = ap (λ (x : Stepped). x.bench.flight) (reply-is true z) in
       record { file = z; count = count; few = omega (arith, count, (reached-sized stopped (reached z)).flight); laid = left_is true z }
 
-  some-process : eqb (file_refusal bytes) 0 ≡ true → 1 ≤ r.bench.n
-  some-process z = subst (λ (x : Stepped). 1 ≤ x.bench.n) (sym (reply-is true z)) (well stopped (reached-well-formed stopped (reached z))).processes.least
+  begun : true ≡ opens (length messages) 1024 bytes → Flying bytes r messages'
+  begun h = flying (sym opens-is ∙ sym h)
 
-  begun : (r.bench.n ≡ 0 → ⊥) → Flying bytes r messages'
-  begun h = go (eqb (file_refusal bytes) 0) refl
-    where
-      go : (t : Bool) → eqb (file_refusal bytes) 0 ≡ t → Flying bytes r messages'
-      go true z = flying z
-      go false z = absurd (h (ap (λ (x : Stepped). x.bench.n) (reply-is false z)))
-
-  unbegun : r.bench.n ≡ 0 → eqb (file_refusal bytes) 0 ≡ false
-  unbegun h = go (eqb (file_refusal bytes) 0) refl
-    where
-      go : (t : Bool) → eqb (file_refusal bytes) 0 ≡ t → t ≡ false
-      go false z = refl
-      go true z = absurd (let some = some-process z in omega (arith, some, h))
+  unbegun : false ≡ opens (length messages) 1024 bytes → eqb (file_refusal bytes) 0 ≡ false
+  unbegun h = sym opens-is ∙ sym h
 
   -- a file that starts no bench: its number
-  text-refused : r.bench.n ≡ 0 → {p q : Page} → Adds (printed_refusal r.refusal) 14 p q → Adds (in_flight bytes) 73728 p q
+  text-refused : false ≡ opens (length messages) 1024 bytes → {p q : Page} → Adds (printed_refusal r.refusal) 14 p q → Adds (in_flight bytes) 73728 p q
   text-refused h w = adds_text (ap printed_refusal given ∙ sym (by-test bytes false (unbegun h))) (omega arith) w
     where
       given : r.refusal ≡ file_refusal bytes
@@ -120,10 +107,10 @@ module _ (bytes : List ℕ) (messages : List Message) (long : length messages �
 -- a run over a table of 512 empty messages
 module _ (bytes : List ℕ) (none : Message) {r : Stepped} {messages : List Message}
     (e : (r ≡ run_reply (length (replicate 512 none)) 1024 bytes) × (messages ≡ messages_left bytes (replicate 512 none))) where
-  pub flown : (r.bench.n ≡ 0 → ⊥) → Flying bytes r messages
+  pub flown : true ≡ opens (length (replicate 512 none)) 1024 bytes → Flying bytes r messages
   flown h = begun bytes (replicate 512 none) (length-replicate 512 none) r e.0 messages e.1 h
 
-  pub refused : r.bench.n ≡ 0 → {p q : Page} → Adds (printed_refusal r.refusal) 14 p q → Adds (in_flight bytes) 73728 p q
+  pub refused : false ≡ opens (length (replicate 512 none)) 1024 bytes → {p q : Page} → Adds (printed_refusal r.refusal) 14 p q → Adds (in_flight bytes) 73728 p q
   refused h w = text-refused bytes (replicate 512 none) (length-replicate 512 none) r e.0 messages e.1 h w
 
 -- ---- the text of the messages in flight

@@ -2,17 +2,17 @@
 // output for the text.
 #![tactic(auto)]
 
-ghost use Rattle.std.specs.Prelude.{◌≡◌, ◌*◌, ◌≤◌, length, take};
+ghost use Rattle.std.specs.Prelude.{◌≡◌, ◌*◌, ◌≤◌, is_ok, length, take};
 ghost use Rattle.text.specs.Paged.{Room, Adds};
-ghost use Rattle.schedule.specs.Opening.{run_reply};
+ghost use Rattle.schedule.specs.Opening.{opens, run_reply};
+ghost use Rattle.schedule.specs.Turns.{replied_by};
 ghost use Rattle.buffer.specs.Printing.{printed, print_reply, print_left, Fronts};
 ghost use Rattle.inflight.specs.Flight.{message_lines, messages_left, in_flight};
 
-use schedule::run;
-use state::Stepped;
-use tables::{empty_message, empty_row};
+use schedule::{Ran, run};
+use tables::Row;
 use text::page::Page;
-use text::refused::put_refused;
+use text::refused::put_refusal;
 use words::Message;
 use words::limits::{MESSAGE_PLACES, ROW_PLACES};
 use words::refusal::Refusal;
@@ -33,24 +33,23 @@ fn put_messages(page: &mut Page<'_>, messages: &[Message])
 }
 
 // The run of a file over a table of messages; the history is needed no longer than the run.
-fn run_messages(messages: &mut [Message], bytes: &[u8]) -> Stepped
-    ensures { (result ≡ run_reply (length messages.old) 1024 bytes.now) × (messages.new ≡ messages_left bytes.now messages.old) }
+fn run_messages(messages: &mut [Message], bytes: &[u8]) -> Result<Ran, Refusal>
+    ensures reply { (replied_by result ≡ run_reply (length messages.old) 1024 bytes.now) × (messages.new ≡ messages_left bytes.now messages.old) }
+    ensures opens { is_ok result ≡ opens (length messages.old) 1024 bytes.now }
 {
-    let mut rows = [empty_row(); ROW_PLACES];
+    let mut rows = [Row::default(); ROW_PLACES];
     run(messages, &mut rows, bytes)
 }
 
-// The text. A file that starts no bench gives one of 0 processes.
+// The text.
 fn put_flight(page: &mut Page<'_>, bytes: &[u8])
     requires { Room 73728 page.old }
     ensures { Adds (in_flight bytes.now) 73728 page.old page.new }
 {
-    let mut messages = [empty_message(); MESSAGE_PLACES];
-    let ran = run_messages(&mut messages, bytes);
-    if ran.bench.n == 0 {
-        put_refused(page, ran.refusal);
-    } else {
-        put_messages(page, &messages[..ran.bench.flight as usize]);
+    let mut messages = [Message::default(); MESSAGE_PLACES];
+    match run_messages(&mut messages, bytes) {
+        Ok(ran) => put_messages(page, &messages[..ran.bench.flight as usize]),
+        Err(refusal) => put_refusal(page, refusal),
     }
 }
 

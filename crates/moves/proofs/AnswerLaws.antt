@@ -1,5 +1,5 @@
 -- What the plain rules answer to a message in flight, in each case of a delivery.
-use Rattle.std.specs.Prelude.{ℕ, ◌-◌, ◌≤◌, ◌<◌, ◌≡◌, true, leb, set}
+use Rattle.std.specs.Prelude.{ℕ, ◌-◌, ◌≤◌, ◌<◌, ◌≡◌, true, leb, set, Option, Some, None}
 use Rattle.std.proofs.Math.Path.{refl, ap}
 use Rattle.std.proofs.Common.{◌∙◌, eq-eqb, ne_eqb, le-leb}
 use Rattle.std.proofs.lemmas.Bool.{false≢true, lt-leb}
@@ -9,19 +9,16 @@ use Rattle.words.specs.declared.Message.{Message}
 use Rattle.words.specs.declared.Pair.{Pair}
 use Rattle.words.specs.Quorum.{joined, counted, majority_of}
 use Rattle.words.specs.Stamps.{newer}
-use Rattle.replica.specs.declared.Answer.{Answer}
-use Rattle.replica.specs.declared.AckCounts.{AckCounts}
-use Rattle.replica.specs.declared.AckCounts.TheVariants.{Not as NoAck, For as AckFor}
+use Rattle.replica.specs.Answer.{Answer}
 use Rattle.replica.specs.declared.Ended.TheVariants.{Pending, Query as Queried, At as Ended}
 use Rattle.replica.specs.declared.Gathered.{Gathered}
 use Rattle.replica.specs.declared.Phase.{Phase}
 use Rattle.replica.specs.declared.Phase.TheVariants.{Idle, Querying, Updating}
 use Rattle.replica.specs.declared.Replica.{Replica}
-use Rattle.replica.specs.declared.ResponseCounts.{ResponseCounts}
-use Rattle.replica.specs.declared.ResponseCounts.TheVariants.{Not, For}
 use Rattle.replica.specs.declared.Sends.TheVariants.{Nothing}
 use Rattle.replica.specs.Gathering.{gathered_with}
-use Rattle.replica.specs.Handlers.{accepted, discarded, stored, query_rule, update_rule}
+use Rattle.replica.specs.Handlers.{discarded, stored, query_rule, update_rule}
+use Rattle.replica.specs.Answer.{accepted}
 use Rattle.replica.specs.Handlers.{response_counts, response_taken, response_counted, response_rule, ack_counts, ack_taken, ack_counted, ack_rule}
 use Rattle.state.specs.State.{State, row_of}
 use Rattle.state.specs.Step.{asked_register}
@@ -38,14 +35,14 @@ plain-accepts s r m (Query x) = refl
 plain-accepts s r m (Update x pair) = refl
 plain-accepts s r m (Response pair) = go (response_counts r.phase r.rid m.rid)
   where
-    go : (c : ResponseCounts) → (response_taken c r s.n (asked_register s r.phase) m.from m.time pair).refusal ≡ 0
-    go Not = refl
-    go (For row gathered) = either_way (λ (a : Answer). a.refusal ≡ 0) (leb (majority_of s.n) (counted (joined r.repliers m.from.0))) _ _ refl refl
+    go : (c : Option (ℕ × Gathered)) → (response_taken c r s.n (asked_register s r.phase) m.from m.time pair).refusal ≡ 0
+    go None = refl
+    go (Some waiting) = either_way (λ (a : Answer). a.refusal ≡ 0) (leb (majority_of s.n) (counted (joined r.repliers m.from.0))) _ _ refl refl
 plain-accepts s r m Ack = go (ack_counts r.phase r.rid m.rid)
   where
-    go : (c : AckCounts) → (ack_taken c r s.n m.from m.time).refusal ≡ 0
-    go NoAck = refl
-    go (AckFor row sent) = either_way (λ (a : Answer). a.refusal ≡ 0) (leb (majority_of s.n) (counted (joined r.repliers m.from.0))) _ _ refl refl
+    go : (c : Option (ℕ × Pair)) → (ack_taken c r s.n m.from m.time).refusal ≡ 0
+    go None = refl
+    go (Some waiting) = either_way (λ (a : Answer). a.refusal ≡ 0) (leb (majority_of s.n) (counted (joined r.repliers m.from.0))) _ _ refl refl
 
 module _ (s : State) (i : ℕ) where
   abbrev pub answer_at : Answer

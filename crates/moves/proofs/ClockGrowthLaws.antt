@@ -12,7 +12,8 @@ use Rattle.replica.specs.declared.Replica.{Replica}
 use Rattle.replica.specs.declared.Sends.{Sends}
 use Rattle.replica.specs.declared.Sends.TheVariants.{Nothing, Reply, Broadcast}
 use Rattle.replica.specs.ClockLaws.{after-least}
-use Rattle.replica.specs.Handlers.{accepted, stored}
+use Rattle.replica.specs.Handlers.{stored}
+use Rattle.replica.specs.Answer.{accepted}
 use Rattle.tables.specs.Tables.{empty_message, empty_row, removed, copies, following}
 use Rattle.state.specs.declared.Event.{Event}
 use Rattle.state.specs.State.{State, fresh_replica, replica_of, row_of}

@@ -4,7 +4,7 @@ use Rattle.std.proofs.Common.{sym, ap, subst, ◌∙◌, arith, leb-false, ltb-f
 use Rattle.std.proofs.lemmas.Bool.{not-false, lt-leb}
 use Rattle.words.specs.Ranges.{within}
 use Rattle.words.specs.Stamps.{newer}
-use Rattle.replica.specs.declared.Answer.{Answer}
+use Rattle.replica.specs.Answer.{Answer}
 use Rattle.replica.specs.declared.Ended.TheVariants.{Query as Queried, At as Ended}
 use Rattle.replica.specs.declared.Phase.TheVariants.{Idle, Updating}
 use Rattle.replica.specs.declared.Sends.TheVariants.{Nothing}

@@ -6,7 +6,7 @@ use Rattle.std.proofs.Math.Decide.{ℕ_discrete}
 use Rattle.std.proofs.Math.Seq.{take-length}
 use Rattle.std.proofs.lemmas.Bool.{not-false, lt-leb}
 use Rattle.words.specs.Ranges.{within}
-use Rattle.replica.specs.declared.Answer.{Answer}
+use Rattle.replica.specs.Answer.{Answer}
 use Rattle.replica.specs.Handlers.{is_idle, read_rule, write_rule, crash_rule}
 use Rattle.replica.specs.Numbers.{sent_by}
 use Rattle.tables.specs.Tables.{seek}

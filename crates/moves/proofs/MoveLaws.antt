@@ -8,13 +8,14 @@ use Rattle.words.specs.declared.Body.TheVariants.{Query, Response, Update, Ack}
 use Rattle.words.specs.declared.Pair.{Pair}
 use Rattle.words.specs.Quorum.{counted}
 use Rattle.words.specs.Stamps.{newer}
-use Rattle.replica.specs.declared.Answer.{Answer}
+use Rattle.replica.specs.Answer.{Answer}
 use Rattle.replica.specs.declared.Ended.TheVariants.{Pending, Query as Queried, At as Ended}
 use Rattle.replica.specs.declared.Gathered.{Gathered}
 use Rattle.replica.specs.declared.Phase.{Phase}
 use Rattle.replica.specs.declared.Phase.TheVariants.{Idle, Querying, Updating}
 use Rattle.replica.specs.declared.Sends.TheVariants.{Nothing}
-use Rattle.replica.specs.Handlers.{accepted, discarded, is_idle, read_rule, write_rule, crash_rule}
+use Rattle.replica.specs.Handlers.{discarded, is_idle, read_rule, write_rule, crash_rule}
+use Rattle.replica.specs.Answer.{accepted}
 use Rattle.replica.specs.Numbers.{sent_by, pointed}
 use Rattle.tables.specs.Tables.{seek, removed}
 use Rattle.state.specs.declared.Event.{Event}

@@ -17,7 +17,8 @@ use Rattle.replica.specs.declared.Phase.TheVariants.{Idle}
 use Rattle.replica.specs.declared.Replica.{Replica}
 use Rattle.replica.specs.declared.Sends.{Sends}
 use Rattle.replica.specs.declared.Sends.TheVariants.{Nothing, Reply, Broadcast}
-use Rattle.replica.specs.Handlers.{accepted, stored}
+use Rattle.replica.specs.Handlers.{stored}
+use Rattle.replica.specs.Answer.{accepted}
 use Rattle.tables.specs.declared.Row.{Row}
 use Rattle.tables.specs.Tables.{empty_message, seek, removed, copies, following}
 use Rattle.tables.specs.TableLaws.{seek-at}

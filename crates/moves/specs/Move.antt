@@ -17,7 +17,8 @@ use Rattle.replica.specs.declared.Sends.{Sends}
 use Rattle.replica.specs.declared.Sends.TheVariants.{Nothing}
 use Rattle.replica.specs.Clock.{after}
 use Rattle.replica.specs.Gathering.{nothing_gathered, gathered_with}
-use Rattle.replica.specs.Handlers.{accepted, broadcast_of, reply_of, stored, became as placed}
+use Rattle.replica.specs.Handlers.{broadcast_of, reply_of, stored, became as placed}
+use Rattle.replica.specs.Answer.{accepted}
 use Rattle.tables.specs.declared.Row.{Row}
 use Rattle.tables.specs.Tables.{seek, removed}
 use Rattle.state.specs.declared.Event.{Event}

@@ -10,7 +10,7 @@ use Rattle.replica.specs.declared.Phase.TheVariants.{Idle}
 use Rattle.replica.specs.declared.Replica.{Replica}
 use Rattle.replica.specs.declared.Sends.{Sends}
 use Rattle.replica.specs.declared.Sends.TheVariants.{Nothing, Reply, Broadcast}
-use Rattle.replica.specs.Handlers.{accepted}
+use Rattle.replica.specs.Answer.{accepted}
 use Rattle.tables.specs.declared.Row.{Row}
 use Rattle.tables.specs.Tables.{copies}
 use Rattle.state.specs.State.{State, replica_of}

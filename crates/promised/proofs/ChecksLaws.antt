@@ -7,15 +7,13 @@ use Rattle.std.proofs.lemmas.Bool.{not-false}
 use Rattle.words.specs.declared.Body.{Body}
 use Rattle.words.specs.declared.Body.TheVariants.{Query, Response, Update, Ack}
 use Rattle.words.specs.declared.Message.{Message}
+use Rattle.words.specs.declared.Pair.{Pair}
 use Rattle.words.specs.Quorum.{joined, counted, majority_of}
 use Rattle.words.specs.Ranges.{within}
 use Rattle.words.specs.RangeLaws.{and_left, and_right}
-use Rattle.replica.specs.declared.Answer.{Answer}
-use Rattle.replica.specs.declared.AckCounts.{AckCounts}
-use Rattle.replica.specs.declared.AckCounts.TheVariants.{Not as NoAck, For as AckFor}
+use Rattle.replica.specs.Answer.{Answer}
+use Rattle.replica.specs.declared.Gathered.{Gathered}
 use Rattle.replica.specs.declared.Replica.{Replica}
-use Rattle.replica.specs.declared.ResponseCounts.{ResponseCounts}
-use Rattle.replica.specs.declared.ResponseCounts.TheVariants.{Not, For}
 use Rattle.replica.specs.Handlers.{is_idle, read_rule, write_rule, query_rule, update_rule, crash_rule}
 use Rattle.replica.specs.Handlers.{response_counts, response_taken, response_counted, response_rule, ack_counts, ack_taken, ack_counted, ack_rule}
 use Rattle.tables.specs.Tables.{seek}
@@ -57,15 +55,15 @@ unfolding query_rule update_rule response_rule response_counted ack_rule ack_cou
 rules-accept s r message (Query x) = refl
 rules-accept s r message (Response pair) = go (response_counts r.phase r.rid message.rid)
   where
-    go : (c : ResponseCounts) → Accepts (response_taken c r s.n (asked_register s r.phase) message.from message.time pair)
-    go Not = refl
-    go (For row gathered) = either_way Accepts (leb (majority_of s.n) (counted (joined r.repliers message.from.0))) _ _ refl refl
+    go : (c : Option (ℕ × Gathered)) → Accepts (response_taken c r s.n (asked_register s r.phase) message.from message.time pair)
+    go None = refl
+    go (Some waiting) = either_way Accepts (leb (majority_of s.n) (counted (joined r.repliers message.from.0))) _ _ refl refl
 rules-accept s r message (Update x pair) = refl
 rules-accept s r message Ack = go (ack_counts r.phase r.rid message.rid)
   where
-    go : (c : AckCounts) → Accepts (ack_taken c r s.n message.from message.time)
-    go NoAck = refl
-    go (AckFor row sent) = either_way Accepts (leb (majority_of s.n) (counted (joined r.repliers message.from.0))) _ _ refl refl
+    go : (c : Option (ℕ × Pair)) → Accepts (ack_taken c r s.n message.from message.time)
+    go None = refl
+    go (Some waiting) = either_way Accepts (leb (majority_of s.n) (counted (joined r.repliers message.from.0))) _ _ refl refl
 
 module _ (s : State) (w : Well s) (z : Sized s) where
   invocation-first : (p x later : ℕ) → (Invoked s p x → later ≡ 0) → invoke_refusal s p x later ≡ first_of (event_checks s (Read (record { 0 = p }) x))

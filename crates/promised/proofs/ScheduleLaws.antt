@@ -3,7 +3,7 @@ use Rattle.std.specs.Prelude.{ℕ, ◌≡◌, List, length}
 use Rattle.words.specs.declared.Message.{Message}
 use Rattle.tables.specs.declared.Row.{Row}
 use Rattle.state.specs.declared.Bench.{Bench}
-use Rattle.state.specs.declared.Stepped.{Stepped}
+use Rattle.state.specs.Stepped.{Stepped}
 use Rattle.state.specs.State.{view}
 use Rattle.schedule.specs.Run.{ran}
 use Rattle.schedule.proofs.RunLaws.{run-reached}

@@ -1,31 +1,23 @@
 -- What is written from a run is the history file of its schedule; and that it stands at the front of the buffer.
-use Rattle.std.specs.Prelude.{ℕ, ◌+◌, ◌-◌, ◌≤◌, ◌<◌, ◌≡◌, Bool, true, false, not, replicate}
-use Rattle.std.proofs.Math.Path.{refl, sym, ap, subst}
-use Rattle.std.proofs.Common.{◌∙◌, arith, length-take, eqb-true, eq-eqb, le-leb}
+use Rattle.std.specs.Prelude.{ℕ, ◌+◌, ◌-◌, ◌≤◌, ◌<◌, ◌≡◌, Bool, true, false, replicate}
+use Rattle.std.proofs.Math.Path.{sym, ap, subst}
+use Rattle.std.proofs.Common.{◌∙◌, arith, length-take, eq-eqb, le-leb}
 use Rattle.std.proofs.Math.Bool.{cond}
 use mathlib.Core.List.{List, ◌++◌}
 use Rattle.std.proofs.Math.Dec.{eqb}
 use Rattle.std.proofs.Math.ListN.{length, take}
-use Rattle.std.proofs.lemmas.Bool.{not-false, lt-leb}
+use Rattle.std.proofs.lemmas.Bool.{lt-leb}
 use Rattle.tables.specs.declared.Row.{Row}
 use Rattle.tables.specs.Tables.{laid_at}
-use Rattle.state.specs.declared.Stepped.{Stepped}
-use Rattle.state.specs.State.{State, laid_messages}
-use Rattle.state.specs.Tabled.{bench_of}
-use Rattle.state.proofs.Keeps.{reached-well-formed}
-use Rattle.state.proofs.WellLaws.{well}
-use Rattle.advance.proofs.TabledLaws.{holds-view}
+use Rattle.state.specs.Stepped.{Stepped}
 use Rattle.order.specs.Operations.{order_of}
-use Rattle.bench.specs.Start.{no_bench, replied}
 use Rattle.format.specs.Format.{file_refusal}
-use Rattle.format.proofs.FileLaws.{file-opens}
-use Rattle.schedule.specs.Opening.{opening_refusal, ran_file, run_reply}
-use Rattle.schedule.proofs.FileLaws.{file-reached}
+use Rattle.schedule.specs.Opening.{ran_file}
 use Rattle.text.specs.Printed.{printed_refusal}
 use Rattle.text.specs.Written.{Wrote}
 use Rattle.text.specs.LaidLaws.{laid-length}
 use Rattle.replaying.specs.Replayed.{Fronts}
-use Rattle.replaying.proofs.ReplayedLaws.{Stopped, front, rows_long, rows_few}
+use Rattle.replaying.proofs.ReplayedLaws.{Stopped, front, used-rows, rows_long, rows_few}
 use Rattle.histories.specs.OwnFile.{file_of, own_file, Recorded}
 use Rattle.recording.specs.Recording.{recorded, history_reply, history_left}
 
@@ -41,57 +33,27 @@ module _ (bytes : List ℕ) where
 -- ---- a schedule that starts a bench
 
 module _ (bytes : List ℕ) (r : Stepped) (rows : List Row) (s : Stopped bytes r rows) where
-  used-rows : take r.bench.rows rows ≡ (ran_file bytes).state.rows
-  used-rows =
-      ap (λ (t : State). t.rows)
-      (holds-view (ran_file bytes).state r.bench (laid_messages (ran_file bytes).state) rows (s.bench, refl, s.laid))
+  -- the rows that are used are rows of the table
+  pub used-rows_fit : r.bench.rows ≤ length rows
+  used-rows_fit = omega (arith, rows_few bytes r rows s, rows_long bytes r rows s)
 
-  -- the rows that are used are rows of the table, and few
-  pub used-rows_fit : (u : ℕ) → u ≡ r.bench.rows → (u ≤ length rows) × (u ≤ 1024)
-  used-rows_fit u e =
-      let few : u ≤ 1024 = omega (arith, e, rows_few bytes r rows s) in
-      (omega (arith, few, rows_long bytes r rows s), few)
-
-  pub file-written : (u count : ℕ) (listing : List ℕ) → u ≡ r.bench.rows → count ≡ length (order_of (take u rows)) → listing ≡ order_of (take u rows) ++ replicate (1024 - length (order_of (take u rows))) 0
+  pub file-written : (u : ℕ) → u ≡ r.bench.rows → (count : ℕ) (listing : List ℕ) → count ≡ length (order_of (take r.bench.rows rows))
+      → listing ≡ order_of (take r.bench.rows rows) ++ replicate (1024 - length (order_of (take r.bench.rows rows))) 0
       → (xs ys : List ℕ) (end : ℕ) → Recorded (take u rows) (take count listing) xs ys end → Wrote 0 (recorded bytes) 14345 xs ys end
   unfolding own_file
-  file-written u count listing eu ec el xs ys end w =
-      let history : take u rows ≡ (ran_file bytes).state.rows = ap (λ (k : ℕ). take k rows) eu ∙ used-rows in
-      let numbers : take count listing ≡ order_of (take u rows) = front count (order_of (take u rows)) listing ec el in
+  file-written u eu count listing ec el xs ys end w =
+      let history : take u rows ≡ (ran_file bytes).state.rows = ap (λ (k : ℕ). take k rows) eu ∙ used-rows bytes r rows s in
+      let numbers : take count listing ≡ order_of (take u rows) = front count (order_of (take r.bench.rows rows)) listing ec el ∙ sym (ap (λ (k : ℕ). order_of (take k rows)) eu) in
       subst (λ (file : List ℕ). Wrote 0 file 14345 xs ys end)
       (ap (file_of (take u rows)) numbers ∙ ap (λ (l : List Row). file_of l (order_of l)) history ∙ sym (recorded-run bytes (eq-eqb (file_refusal bytes) 0 s.file))) w
 
 -- ---- a schedule that starts no bench
 
-module _ (bytes : List ℕ) (places : ℕ) (long : places ≡ 1024) (r : Stepped) (e : r ≡ run_reply 512 places bytes) where
-  number_is : opening_refusal 512 places bytes ≡ file_refusal bytes
-  unfolding opening_refusal
-  number_is = rw long refl
-
-  reply-is : (t : Bool) → eqb (file_refusal bytes) 0 ≡ t
-      → r ≡ cond t (replied (ran_file bytes).refusal (bench_of (ran_file bytes).state)) (replied (opening_refusal 512 places bytes) no_bench)
-  unfolding run_reply
-  reply-is t z =
-      e
-      ∙ ap (λ (u : Bool). cond u (replied (ran_file bytes).refusal (bench_of (ran_file bytes).state)) (replied (opening_refusal 512 places bytes) no_bench))
-      (ap (λ (k : ℕ). eqb k 0) number_is ∙ z)
-
-  unbegun : not (eqb r.bench.n 0) ≡ false → eqb (file_refusal bytes) 0 ≡ false
-  unbegun h = go (eqb (file_refusal bytes) 0) refl
-    where
-      go : (t : Bool) → eqb (file_refusal bytes) 0 ≡ t → t ≡ false
-      go false z = refl
-      go true z =
-          let reached = file-reached bytes (file-opens bytes (eqb-true (file_refusal bytes) 0 z)) in
-          let some = (well (ran_file bytes).state (reached-well-formed (ran_file bytes).state reached)).processes.least in
-          let n : r.bench.n ≡ (ran_file bytes).state.n = ap (λ (x : Stepped). x.bench.n) (reply-is true z) in
-          absurd (omega (arith, some, n, eqb-true r.bench.n 0 (not-false (eqb r.bench.n 0) h)))
-
-  pub file-refused : not (eqb r.bench.n 0) ≡ false → (xs ys : List ℕ) (end : ℕ) → Wrote 0 (printed_refusal r.refusal) 14 xs ys end → Wrote 0 (recorded bytes) 14345 xs ys end
-  file-refused h xs ys end w =
-      let number : r.refusal ≡ file_refusal bytes = ap (λ (x : Stepped). x.refusal) (reply-is false (unbegun h)) ∙ number_is in
-      subst (λ (text : List ℕ). Wrote 0 text 14345 xs ys end) (ap printed_refusal number ∙ sym (recorded-refused bytes (unbegun h)))
-      (record { ends = w.ends; lays = w.lays; short = omega (arith, w.short); room = w.room })
+pub file-refused : (bytes : List ℕ) (k : ℕ) → k ≡ file_refusal bytes → eqb (file_refusal bytes) 0 ≡ false
+    → (xs ys : List ℕ) (end : ℕ) → Wrote 0 (printed_refusal k) 14 xs ys end → Wrote 0 (recorded bytes) 14345 xs ys end
+file-refused bytes k e none xs ys end w =
+    subst (λ (text : List ℕ). Wrote 0 text 14345 xs ys end) (ap printed_refusal e ∙ sym (recorded-refused bytes none))
+    (record { ends = w.ends; lays = w.lays; short = omega (arith, w.short); room = w.room })
 
 -- ---- the reply of `history`
 

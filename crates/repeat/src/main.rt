@@ -24,8 +24,8 @@ fn main(rt: HostRuntime) -> io::Result<()> {
     let read = input::read_full(&mut rt.stdin(), &mut bytes)?;
     // All replays but the last.
     for _ in 1..number(&word) {
-        replaying::replay(&bytes[..read], &mut text);
+        let _ = replaying::replay(&bytes[..read], &mut text);
     }
-    let written = replaying::replay(&bytes[..read], &mut text);
+    let written = replaying::replay(&bytes[..read], &mut text).unwrap();
     rt.write_all(&text[..written])
 }

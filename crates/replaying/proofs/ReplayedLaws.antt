@@ -10,7 +10,7 @@ use Rattle.words.specs.declared.Message.{Message}
 use Rattle.tables.specs.declared.Row.{Row}
 use Rattle.tables.specs.Tables.{empty_message, empty_row, laid_at}
 use Rattle.state.specs.declared.Bench.{Bench}
-use Rattle.state.specs.declared.Stepped.{Stepped}
+use Rattle.state.specs.Stepped.{Stepped}
 use Rattle.state.specs.State.{State, view, laid_messages, laid_rows}
 use Rattle.state.specs.Tabled.{tabled, bench_of}
 use Rattle.state.specs.WellFormed.{every}
@@ -109,18 +109,15 @@ module _ (bytes : List ℕ) (rows : List Row) (long : length rows ≡ 1024) (r :
         laid = left_is true z;
       }
 
-  no-processes : eqb (file_refusal bytes) 0 ≡ false → r.bench.n ≡ 0
-  no-processes z = ap (λ (x : Stepped). x.bench.n) (reply-is false z)
-
   pub number-given : eqb (file_refusal bytes) 0 ≡ false → r.refusal ≡ file_refusal bytes
   number-given z = ap (λ (x : Stepped). x.refusal) (reply-is false z) ∙ number_is
 
-  pub begun : not (eqb r.bench.n 0) ≡ true → Stopped bytes r rows'
-  begun h = go (eqb (file_refusal bytes) 0) refl
-    where
-      go : (t : Bool) → eqb (file_refusal bytes) 0 ≡ t → Stopped bytes r rows'
-      go true z = accepted z
-      go false z = absurd (true≢false (sym h ∙ ap not (eq-eqb r.bench.n 0 (no-processes z))))
+  -- by whether the code says that it starts a bench
+  pub begun : true ≡ opens 512 (length rows) bytes → Stopped bytes r rows'
+  begun h = accepted (sym opens-is ∙ sym h)
+
+  pub unbegun : false ≡ opens 512 (length rows) bytes → eqb (file_refusal bytes) 0 ≡ false
+  unbegun h = sym opens-is ∙ sym h
 
 -- ---- what a state that a run stopped at has
 
@@ -160,7 +157,7 @@ module _ (bytes : List ℕ) (r : Stepped) (rows : List Row) (s : Stopped bytes r
 
   -- ---- what the order and the report ask
 
-  used-rows : take r.bench.rows rows ≡ (stopped bytes).rows
+  pub used-rows : take r.bench.rows rows ≡ (stopped bytes).rows
   used-rows = ap (λ (t : State). t.rows) view-is
 
   short-bench : ShortBench r.bench
@@ -171,17 +168,12 @@ module _ (bytes : List ℕ) (r : Stepped) (rows : List Row) (s : Stopped bytes r
       let there : i < length (stopped bytes).rows = subst (λ (b : Bench). i < b.rows) s.bench l in
       subst ShortRow (ap (λ (t : List Row). get_or t i empty_row) (sym used-rows) ∙ get_or-take r.bench.rows rows i empty_row l) (short-rows (stopped bytes) formed i there)
 
-  pub order-asks : (u : ℕ) → u ≡ r.bench.rows → (places : ℕ) → places ≡ 1024 → (length rows ≡ 1024) × ((places ≡ 1024) × ((u ≤ 1024) × (every row_ranged (take u rows) ≡ true)))
-  order-asks u e places l =
-      subst (λ (k : ℕ). (length rows ≡ 1024) × ((places ≡ 1024) × ((k ≤ 1024) × (every row_ranged (take k rows) ≡ true)))) (sym e) (rows_long, (l, (rows_few, all-ranged)))
+  pub order-asks : (places : ℕ) → places ≡ 1024 → (length rows ≡ 1024) × ((places ≡ 1024) × ((r.bench.rows ≤ 1024) × (every row_ranged (take r.bench.rows rows) ≡ true)))
+  order-asks places l = (rows_long, (l, (rows_few, all-ranged)))
 
-  pub report-asks : (b : Bench) → b ≡ r.bench → (room : ℕ) → 81563 ≤ room → (count places : ℕ) → count ≤ places → count ≤ 1024
-      → (81563 ≤ room) × ((b.n ≤ 7) × ((b.m ≤ 16) × ((b.rows ≤ length rows) × ((b.rows ≤ 1024) × ((count ≤ places) × ((count ≤ 1024) × (ShortBench b × ShortRows b.rows rows)))))))
-  report-asks b e room l count places c d =
-      subst
-      (λ (x : Bench). (81563 ≤ room) × ((x.n ≤ 7) × ((x.m ≤ 16) × ((x.rows ≤ length rows) × ((x.rows ≤ 1024) × ((count ≤ places) × ((count ≤ 1024) × (ShortBench x × ShortRows x.rows rows))))))))
-      (sym e)
-      (l, (few-processes, (few-registers, (subst (λ (k : ℕ). r.bench.rows ≤ k) (sym rows_long) rows_few, (rows_few, (c, (d, (short-bench, used-short))))))))
+  pub report-asks : (room : ℕ) → 81563 ≤ room → (count : ℕ) → count ≤ 1024
+      → (81563 ≤ room) × ((r.bench.n ≤ 7) × ((r.bench.m ≤ 16) × ((r.bench.rows ≤ length rows) × ((r.bench.rows ≤ 1024) × ((count ≤ 1024) × (ShortBench r.bench × ShortRows r.bench.rows rows))))))
+  report-asks room l count d = (l, (few-processes, (few-registers, (subst (λ (k : ℕ). r.bench.rows ≤ k) (sym rows_long) rows_few, (rows_few, (d, (short-bench, used-short)))))))
 
   -- ---- the text
 
@@ -197,29 +189,18 @@ module _ (bytes : List ℕ) (r : Stepped) (rows : List Row) (s : Stopped bytes r
           ap (λ (t : State). printed t r.refusal numbers) view-is ∙ ap (λ (k : ℕ). printed (stopped bytes) k numbers) s.refusal
           ∙ ap (printed (stopped bytes) (ran_file bytes).refusal) (o ∙ ap order_of used-rows)
 
-  pub text-written : (b : Bench) (k u count : ℕ) (listing : List ℕ) → b ≡ r.bench → k ≡ r.refusal → u ≡ r.bench.rows
-      → count ≡ length (order_of (take u rows)) → listing ≡ order_of (take u rows) ++ replicate (1024 - length (order_of (take u rows))) 0
-      → (xs ys : List ℕ) (end : ℕ) → Reported b k rows (take count listing) xs ys end → Wrote 0 (replayed bytes) 81563 xs ys end
-  text-written b k u count listing eb ek eu ec el xs ys end w =
-      text_of (take count listing) (front count (order_of (take u rows)) listing ec el ∙ ap (λ (j : ℕ). order_of (take j rows)) eu) xs ys end
-      (subst (λ (x : Bench). Reported x r.refusal rows (take count listing) xs ys end) eb (subst (λ (j : ℕ). Reported b j rows (take count listing) xs ys end) ek w))
+  pub text-written : (count : ℕ) (listing : List ℕ) → count ≡ length (order_of (take r.bench.rows rows))
+      → listing ≡ order_of (take r.bench.rows rows) ++ replicate (1024 - length (order_of (take r.bench.rows rows))) 0
+      → (xs ys : List ℕ) (end : ℕ) → Reported r.bench r.refusal rows (take count listing) xs ys end → Wrote 0 (replayed bytes) 81563 xs ys end
+  text-written count listing ec el xs ys end w = text_of (take count listing) (front count (order_of (take r.bench.rows rows)) listing ec el) xs ys end w
 
 -- ---- a file that starts no bench
 
 module _ (bytes : List ℕ) (rows : List Row) (long : length rows ≡ 1024) (r : Stepped) (e : r ≡ run_reply 512 (length rows) bytes) (rows' : List Row) (f : rows' ≡ rows_left bytes rows) where
-  unbegun : not (eqb r.bench.n 0) ≡ false → eqb (file_refusal bytes) 0 ≡ false
-  unbegun h = go (eqb (file_refusal bytes) 0) refl
-    where
-      go : (t : Bool) → eqb (file_refusal bytes) 0 ≡ t → t ≡ false
-      go false z = refl
-      go true z = absurd (impossible (some-process bytes r rows' (accepted bytes rows long r e rows' f z)) (eqb-true r.bench.n 0 (not-false (eqb r.bench.n 0) h)))
-        where
-          impossible : 1 ≤ r.bench.n → r.bench.n ≡ 0 → ⊥
-          impossible l q = omega (arith, l, q)
-
-  pub text-refused : not (eqb r.bench.n 0) ≡ false → (xs ys : List ℕ) (end : ℕ) → Wrote 0 (printed_refusal r.refusal) 14 xs ys end → Wrote 0 (replayed bytes) 81563 xs ys end
+  pub text-refused : false ≡ opens 512 (length rows) bytes → (xs ys : List ℕ) (end : ℕ) → Wrote 0 (printed_refusal r.refusal) 14 xs ys end → Wrote 0 (replayed bytes) 81563 xs ys end
   text-refused h xs ys end w =
-      subst (λ (text : List ℕ). Wrote 0 text 81563 xs ys end) (ap printed_refusal (number-given bytes rows long r e rows' f (unbegun h)) ∙ sym (replayed-refused bytes (unbegun h))) (widened w)
+      let none : eqb (file_refusal bytes) 0 ≡ false = unbegun bytes rows long r e rows' f h in
+      subst (λ (text : List ℕ). Wrote 0 text 81563 xs ys end) (ap printed_refusal (number-given bytes rows long r e rows' f none) ∙ sym (replayed-refused bytes none)) (widened w)
     where
       widened : Wrote 0 (printed_refusal r.refusal) 14 xs ys end → Wrote 0 (printed_refusal r.refusal) 81563 xs ys end
       widened v = record { ends = v.ends; lays = v.lays; short = omega (arith, v.short); room = v.room }

@@ -1,5 +1,6 @@
 -- The text of a replay, from the bytes of its schedule: document 01, "Replay output". And what the functions of this crate reply and leave.
-use Rattle.std.specs.Prelude.{ℕ, ◌≤◌, ◌≡◌, cond, List, eqb, leb, length, take}
+use Rattle.std.specs.Prelude.{ℕ, ◌≤◌, ◌≡◌, cond, Result, Ok, Err, List, eqb, leb, length, take}
+use Rattle.words.specs.declared.refusal.Refusal.{Refusal}
 use Rattle.words.specs.Limits.{most_flight}
 use Rattle.tables.specs.declared.Row.{Row}
 use Rattle.tables.specs.Tables.{laid_at}
@@ -23,6 +24,11 @@ replay_reply bytes out = cond (leb 81563 (length out)) (length (replayed bytes))
 -- the buffer with the text at its front
 unfoldable pub replay_left : List ℕ → List ℕ → List ℕ
 replay_left bytes out = cond (leb 81563 (length out)) (laid_at 0 (replayed bytes) out) out
+
+-- what a result of the code stands for: 0 where nothing was written, and no text is empty
+abbrev pub written : Result ℕ Refusal → ℕ
+written (Ok n) = n
+written (Err e) = 0
 
 -- n bytes stand at the front of the buffer; said twice, so that whoever takes them out has it either way
 abbrev pub Fronts : ℕ → List ℕ → Type 0

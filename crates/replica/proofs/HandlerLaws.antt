@@ -1,12 +1,12 @@
 -- Laws of the handlers: what a refusal says, and that inside the ranges a handler is its plain rule.
-use Rattle.std.specs.Prelude.{ℕ, ◌-◌, ◌≡◌, refl, Bool, true, false, cond, ◌&&◌, ◌⊎◌, leb, ℤ, set}
+use Rattle.std.specs.Prelude.{ℕ, ◌-◌, ◌≡◌, refl, Bool, true, false, cond, ◌&&◌, ◌⊎◌, leb, eqb, ℤ, set, Some, None}
 use Rattle.std.proofs.Common.{sym, ◌∙◌, inl, inr, eq-eqb, ne_eqb}
 use Rattle.std.proofs.Math.Path.{ap}
 use Rattle.std.proofs.Math.Bool.{and-false}
 use mathlib.Core.List.{List}
 use Rattle.std.proofs.Math.Seq.{set-get_or}
 use Rattle.std.proofs.lemmas.Bool.{eqb-false}
-use Rattle.replica.specs.declared.Answer.{Answer}
+use Rattle.replica.specs.Answer.{Answer, accepted, refused}
 use Rattle.words.specs.declared.Pair.{Pair}
 use Rattle.words.specs.declared.Pid.{Pid}
 use Rattle.replica.specs.declared.Replica.{Replica}
@@ -15,13 +15,15 @@ use Rattle.words.specs.declared.Time.{Time}
 use Rattle.replica.specs.declared.Ended.TheVariants.{Pending}
 use Rattle.words.specs.declared.Body.TheVariants.{Ack}
 use Rattle.replica.specs.Clock.{after}
+use Rattle.replica.specs.Gathering.{gathered_with}
+use Rattle.replica.specs.declared.Gathered.{Gathered}
+use Rattle.replica.specs.declared.Phase.{Phase}
+use Rattle.replica.specs.declared.Phase.TheVariants.{Idle, Querying, Updating}
 use Rattle.replica.specs.Handlers.{
   became,
   reply_of,
-  accepted,
   stored,
   unless_refused,
-  refused,
   is_idle,
   begin_refusal,
   down_refusal,
@@ -40,6 +42,13 @@ use Rattle.replica.specs.Handlers.{
   update_rule,
   update_received,
   reply_fits,
+  discarded,
+  response_counts,
+  response_taken,
+  response_counted,
+  ack_counts,
+  ack_taken,
+  ack_counted,
   response_refusal,
   response_rule,
   response_received,
@@ -78,13 +87,51 @@ unfolding down_refusal
 down-inside number true crashed e = refl
 down-inside number false crashed e = absurd (eqb-false _ 0 refl e)
 
--- ---- the case that a test picks
+-- ---- a reply counts in its phase and with the present request number; any other is discarded
 
-pub picks_first : {A : Type 0} (test : Bool) (a b : A) → test ≡ true → a ≡ cond test a b
-picks_first test a b e = simp e
+module _ (r : Replica) (n x : ℕ) (from : Pid) (time : Time) (rid : Rid) (pair : Pair) where
+  response_by : Phase → Answer
+  response_by phase = response_taken (response_counts phase r.rid rid) r n x from time pair
 
-pub picks_second : {A : Type 0} (test : Bool) (a b : A) → test ≡ false → b ≡ cond test a b
-picks_second test a b e = simp e
+  pub response-for : (row : ℕ) (gathered : Gathered) → r.phase ≡ Querying row gathered → true ≡ eqb rid.0 r.rid.0 → response_counted r n x from time row (gathered_with gathered pair) ≡ response_rule r n x from time rid pair
+  unfolding response_rule response_by
+  response-for row gathered is same =
+      sym (ap response_by is ∙ ap (λ b. response_taken (cond b (Some (row, gathered)) None) r n x from time pair) (sym same))
+
+  pub response-late : (row : ℕ) (gathered : Gathered) → r.phase ≡ Querying row gathered → false ≡ eqb rid.0 r.rid.0 → discarded r ≡ response_rule r n x from time rid pair
+  unfolding response_rule response_by
+  response-late row gathered is other =
+      sym (ap response_by is ∙ ap (λ b. response_taken (cond b (Some (row, gathered)) None) r n x from time pair) (sym other))
+
+  pub response-idle : ((row : ℕ) (gathered : Gathered) → r.phase ≡ Querying row gathered → ⊥) → discarded r ≡ response_rule r n x from time rid pair
+  unfolding response_rule response_by
+  response-idle none = go r.phase refl
+    where
+      go : (phase : Phase) → r.phase ≡ phase → discarded r ≡ response_by phase
+      go Idle e = refl
+      go (Querying row gathered) e = absurd (none row gathered e)
+      go (Updating row sent) e = refl
+
+module _ (r : Replica) (n : ℕ) (from : Pid) (time : Time) (rid : Rid) where
+  ack_by : Phase → Answer
+  ack_by phase = ack_taken (ack_counts phase r.rid rid) r n from time
+
+  pub ack-for : (row : ℕ) (sent : Pair) → r.phase ≡ Updating row sent → true ≡ eqb rid.0 r.rid.0 → ack_counted r n from time row sent ≡ ack_rule r n from time rid
+  unfolding ack_rule ack_by
+  ack-for row sent is same = sym (ap ack_by is ∙ ap (λ b. ack_taken (cond b (Some (row, sent)) None) r n from time) (sym same))
+
+  pub ack-late : (row : ℕ) (sent : Pair) → r.phase ≡ Updating row sent → false ≡ eqb rid.0 r.rid.0 → discarded r ≡ ack_rule r n from time rid
+  unfolding ack_rule ack_by
+  ack-late row sent is other = sym (ap ack_by is ∙ ap (λ b. ack_taken (cond b (Some (row, sent)) None) r n from time) (sym other))
+
+  pub ack-idle : ((row : ℕ) (sent : Pair) → r.phase ≡ Updating row sent → ⊥) → discarded r ≡ ack_rule r n from time rid
+  unfolding ack_rule ack_by
+  ack-idle none = go r.phase refl
+    where
+      go : (phase : Phase) → r.phase ≡ phase → discarded r ≡ ack_by phase
+      go Idle e = refl
+      go (Querying row gathered) e = refl
+      go (Updating row sent) e = absurd (none row sent e)
 
 -- ---- what is accepted was inside the ranges
 

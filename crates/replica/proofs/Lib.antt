@@ -1,1 +1,2 @@
 pub mod HandlerLaws
+pub mod AnswerLaws

@@ -1,6 +1,6 @@
 -- The handlers of one process: document 01, "Events", sentence by sentence. Each rule is what document 000's Algorithm 1 does for the event;
 -- each handler is the rule, guarded by its ranges and document 01's refusals.
-use Rattle.std.specs.Prelude.{ℕ, ◌+◌, ◌-◌, Bool, true, false, cond, ◌&&◌, List, leb, eqb, ℤ, get_or, set}
+use Rattle.std.specs.Prelude.{ℕ, ◌+◌, ◌-◌, Bool, true, false, cond, ◌&&◌, List, leb, eqb, ℤ, get_or, set, Option, None, Some}
 use Rattle.words.specs.declared.Time.{Time}
 use Rattle.words.specs.declared.Rid.{Rid}
 use Rattle.words.specs.declared.Pid.{Pid}
@@ -13,14 +13,9 @@ use Rattle.replica.specs.declared.Replica.{Replica}
 use Rattle.replica.specs.declared.Letter.{Letter}
 use Rattle.replica.specs.declared.Sends.{Sends}
 use Rattle.replica.specs.declared.Sends.TheVariants.{Nothing, Reply, Broadcast}
-use Rattle.replica.specs.declared.Ended.{Ended}
 use Rattle.replica.specs.declared.Ended.TheVariants.{Pending, Query as Queried, At}
-use Rattle.replica.specs.declared.Answer.{Answer}
+use Rattle.replica.specs.Answer.{Answer, accepted, refused}
 use Rattle.replica.specs.declared.Gathered.{Gathered}
-use Rattle.replica.specs.declared.ResponseCounts.{ResponseCounts}
-use Rattle.replica.specs.declared.ResponseCounts.TheVariants.{Not, For}
-use Rattle.replica.specs.declared.AckCounts.{AckCounts}
-use Rattle.replica.specs.declared.AckCounts.TheVariants.{Not as NoAck, For as AckFor}
 use Rattle.replica.specs.Clock.{after}
 use Rattle.replica.specs.Gathering.{nothing_gathered, gathered_with}
 use Rattle.words.specs.Quorum.{joined, counted, majority_of}
@@ -51,13 +46,6 @@ broadcast_of time rid body = Broadcast (letter time rid body)
 
 abbrev pub reply_of : Pid → ℕ → ℕ → Body → Sends
 reply_of to time rid body = Reply to (letter time rid body)
-
-abbrev pub accepted : Replica → Sends → Ended → Answer
-accepted r sends ended = record { refusal = 0; replica = r; sends = sends; ended = ended }
-
--- a refusal leaves the replica as before, sends nothing and ends nothing
-abbrev pub refused : ℕ → Replica → Answer
-refused number r = record { refusal = number; replica = r; sends = Nothing; ended = Pending }
 
 -- the pair stored for register x
 abbrev pub stored : Replica → ℕ → Pair
@@ -120,31 +108,31 @@ ack_counted r n from time row sent =
     (accepted (became r clock r.rid.0 (Updating row sent) repliers r.pairs) Nothing Pending)
 
 -- A response counts only while the replica is querying, and only with the present request number
-abbrev pub response_counts : Phase → Rid → Rid → ResponseCounts
-response_counts Idle own rid = Not
-response_counts (Querying row gathered) own rid = cond (eqb rid.0 own.0) (For row gathered) Not
-response_counts (Updating row sent) own rid = Not
+abbrev pub response_counts : Phase → Rid → Rid → Option (ℕ × Gathered)
+response_counts Idle own rid = None
+response_counts (Querying row gathered) own rid = cond (eqb rid.0 own.0) (Some (row, gathered)) None
+response_counts (Updating row sent) own rid = None
 
 -- an ack only while updating, and only with the present request number
-abbrev pub ack_counts : Phase → Rid → Rid → AckCounts
-ack_counts Idle own rid = NoAck
-ack_counts (Querying row gathered) own rid = NoAck
-ack_counts (Updating row sent) own rid = cond (eqb rid.0 own.0) (AckFor row sent) NoAck
+abbrev pub ack_counts : Phase → Rid → Rid → Option (ℕ × Pair)
+ack_counts Idle own rid = None
+ack_counts (Querying row gathered) own rid = None
+ack_counts (Updating row sent) own rid = cond (eqb rid.0 own.0) (Some (row, sent)) None
 
 -- Otherwise the message is taken off and nothing else changes, the clock included
 abbrev pub discarded : Replica → Answer
 discarded r = accepted r Nothing Pending
 
-abbrev pub response_taken : ResponseCounts → Replica → ℕ → ℕ → Pid → Time → Pair → Answer
-response_taken Not r n x from time pair = discarded r
-response_taken (For row gathered) r n x from time pair = response_counted r n x from time row (gathered_with gathered pair)
+abbrev pub response_taken : Option (ℕ × Gathered) → Replica → ℕ → ℕ → Pid → Time → Pair → Answer
+response_taken None r n x from time pair = discarded r
+response_taken (Some waiting) r n x from time pair = response_counted r n x from time waiting.0 (gathered_with waiting.1 pair)
 
 unfoldable pub response_rule : Replica → ℕ → ℕ → Pid → Time → Rid → Pair → Answer
 response_rule r n x from time rid pair = response_taken (response_counts r.phase r.rid rid) r n x from time pair
 
-abbrev pub ack_taken : AckCounts → Replica → ℕ → Pid → Time → Answer
-ack_taken NoAck r n from time = discarded r
-ack_taken (AckFor row sent) r n from time = ack_counted r n from time row sent
+abbrev pub ack_taken : Option (ℕ × Pair) → Replica → ℕ → Pid → Time → Answer
+ack_taken None r n from time = discarded r
+ack_taken (Some waiting) r n from time = ack_counted r n from time waiting.0 waiting.1
 
 unfoldable pub ack_rule : Replica → ℕ → Pid → Time → Rid → Answer
 ack_rule r n from time rid = ack_taken (ack_counts r.phase r.rid rid) r n from time

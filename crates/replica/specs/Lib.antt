@@ -2,6 +2,7 @@
 pub mod Clock
 pub mod Ranges
 pub mod Gathering
+pub mod Answer
 pub mod Handlers
 pub mod Numbers
 -- Laws

@@ -6,7 +6,8 @@ ghost use Rattle.replica.specs.Clock.{after_time, clock_after};
 
 use words::Time;
 
-#[derive(Clone, Copy)]
+// A struct of one field, lent by `&mut`: document 01 binds the form, a clock that is lent to a thin layer over a rule of plain numbers.
+#[derive(Clone, Copy, Debug, PartialEq, Eq)]
 pub struct Clock {
     pub time: Time,
 }
@@ -16,11 +17,7 @@ fn later(own: Time, sent: Time) -> Time
     requires { (own.0 ≤ most_time) × (sent.0 ≤ most_time) }
     ensures { result ≡ after_time own sent }
 {
-    if own.0 < sent.0 {
-        Time(sent.0 + 1)
-    } else {
-        Time(own.0 + 1)
-    }
+    Time(own.0.max(sent.0) + 1)
 }
 
 // A clock that is lent goes by the rule.
@@ -28,8 +25,7 @@ pub fn receive(clock: &mut Clock, time: Time)
     requires { (clock.old.time.0 ≤ most_time) × (time.0 ≤ most_time) }
     ensures { clock.new ≡ clock_after clock.old time }
 {
-    let own = clock.time;
-    clock.time = later(own, time);
+    clock.time = later(clock.time, time);
 }
 
 // The same for callers that have no clock to lend: a clock's time and a message's in, the clock's next time out.

@@ -1,23 +1,18 @@
-// What a query gathers: at first nothing, then from each response that counts.
+// What a query gathers from each response that counts.
 ghost use Rattle.std.specs.Prelude.{◌≡◌};
-ghost use Rattle.replica.specs.Gathering.{nothing_gathered, gathered_with};
+ghost use Rattle.replica.specs.Gathering.{gathered_with};
 
-use crate::{Gathered, store};
-use words::{Pair, stamps};
+use crate::Gathered;
+use words::Pair;
+use words::stamps::newer_of;
 
-pub fn nothing() -> Gathered
-    ensures { result ≡ nothing_gathered }
-{
-    Gathered {
-        best: store::start_pair(),
-    }
-}
-
-// With one more response, which bears `pair`.
-pub fn with_response(gathered: Gathered, pair: Pair) -> Gathered
-    ensures { result ≡ gathered_with gathered pair }
-{
-    Gathered {
-        best: stamps::newer_of(gathered.best, pair),
+impl Gathered {
+    // With one more response, which bears `pair`.
+    pub(crate) fn with(self, pair: Pair) -> Gathered
+        ensures { result ≡ gathered_with self pair }
+    {
+        Gathered {
+            best: newer_of(self.best, pair),
+        }
     }
 }

@@ -1,119 +1,99 @@
 // The handlers of one process. Each hands the replica back changed, with what it sends. None has a `requires`: what is outside its
-// ranges is answered by 18, and the replica comes back as it was.
+// ranges is refused, as is an event that this replica cannot take.
 ghost use Rattle.std.specs.Prelude.{◌≡◌, ◌≤◌};
 ghost use Rattle.words.specs.Limits.{most_time, most_rid};
+ghost use Rattle.replica.specs.Answer.{answer, answered};
 ghost use Rattle.replica.specs.Handlers.{read_begun, write_begun, query_received, update_received, response_received, ack_received};
 ghost use Rattle.replica.specs.Handlers.{crashed, response_counted, ack_counted};
 
 use crate::clock::after_receiving;
-use crate::{
-    AckCounts, Answer, Ended, Gathered, Phase, Replica, ResponseCounts, Sends, counting, gathering,
-    refusals, sending, store,
-};
-use words::{Body, Pair, Pid, Rid, Stamp, Time, quorum, stamps};
+use crate::{Ended, Gathered, Handled, Phase, Replica, Sends, fits, refusals};
+use words::refusal::Refusal;
+use words::{Body, Pair, Pid, Sender, Stamp, quorum, stamps};
 
 impl Replica {
-    pub fn begin_read(mut self, register: u8, row: u16) -> Answer
-        ensures { result ≡ read_begun self register row }
+    pub fn begin_read(mut self, register: u8, row: u16) -> Result<Handled, Refusal>
+        ensures { answer self result ≡ read_begun self register row }
     {
-        let refusal = refusals::read_refusal(self, register, row);
-        if refusal != 0 {
-            return sending::refuse(refusal, self);
-        }
-        let clock = Time(self.clock.0 + 1);
-        let rid = Rid(self.rid.0 + 1);
-        let gathered = gathering::nothing();
-        self = store::move_to(
-            self,
-            clock,
-            rid,
-            Phase::Querying(row, gathered),
-            self.repliers,
-        );
-        sending::accept(self, sending::broadcast(clock, rid, Body::Query(register)))
+        refusals::check_read(self, register, row)?;
+        self.clock.0 += 1;
+        self.rid.0 += 1;
+        self.phase = Phase::Querying(row, Gathered::default());
+        Ok(self.sending(self.broadcast(Body::Query(register))))
     }
 
-    pub fn begin_write(mut self, me: Pid, register: u8, value: i64, row: u16) -> Answer
-        ensures { result ≡ write_begun self me register value row }
+    pub fn begin_write(
+        mut self,
+        me: Pid,
+        register: u8,
+        value: i64,
+        row: u16,
+    ) -> Result<Handled, Refusal>
+        ensures { answer self result ≡ write_begun self me register value row }
     {
-        let refusal = refusals::write_refusal(self, me, register, row);
-        if refusal != 0 {
-            return sending::refuse(refusal, self);
-        }
-        let clock = Time(self.clock.0 + 1);
-        let rid = Rid(self.rid.0 + 1);
-        let pair = Pair {
-            stamp: Stamp {
-                time: clock,
-                process: me,
-            },
-            value: value,
+        refusals::check_write(self, me, register, row)?;
+        self.clock.0 += 1;
+        self.rid.0 += 1;
+        let stamp = Stamp {
+            time: self.clock,
+            process: me,
         };
-        self = store::move_to(self, clock, rid, Phase::Updating(row, pair), self.repliers);
-        sending::accept(
-            self,
-            sending::broadcast(clock, rid, Body::Update(register, pair)),
-        )
+        let pair = Pair { stamp, value };
+        self.phase = Phase::Updating(row, pair);
+        Ok(self.sending(self.broadcast(Body::Update(register, pair))))
     }
 
-    pub fn query_received(mut self, from: Pid, time: Time, rid: Rid, register: u8) -> Answer
-        ensures { result ≡ query_received self from time rid register }
+    pub fn query_received(mut self, sender: Sender, register: u8) -> Result<Handled, Refusal>
+        ensures { answer self result ≡ query_received self sender.from sender.time sender.rid register }
     {
-        let refusal = refusals::query_refusal(self, from, time, rid, register);
-        if refusal != 0 {
-            return sending::refuse(refusal, self);
-        }
-        let pair = store::pair_of(self, register);
-        let clock = after_receiving(self.clock, time);
-        self.clock = clock;
-        sending::accept(self, sending::reply(from, clock, rid, Body::Response(pair)))
+        refusals::check_query(self, sender, register)?;
+        self.clock = after_receiving(self.clock, sender.time);
+        let pair = fits::stored(self, register);
+        Ok(self.sending(self.reply(sender, Body::Response(pair))))
     }
 
     pub fn update_received(
         mut self,
-        from: Pid,
-        time: Time,
-        rid: Rid,
+        sender: Sender,
         register: u8,
         pair: Pair,
-    ) -> Answer
-        ensures { result ≡ update_received self from time rid register pair }
+    ) -> Result<Handled, Refusal>
+        ensures { answer self result ≡ update_received self sender.from sender.time sender.rid register pair }
     {
-        let refusal = refusals::update_refusal(self, from, time, rid, register, pair);
-        if refusal != 0 {
-            return sending::refuse(refusal, self);
-        }
-        let clock = after_receiving(self.clock, time);
-        let newest = stamps::newer_of(store::pair_of(self, register), pair);
-        self = store::with_pair(self, clock, register, newest);
-        sending::accept(self, sending::reply(from, clock, rid, Body::Ack))
+        refusals::check_update(self, sender, register, pair)?;
+        self.clock = after_receiving(self.clock, sender.time);
+        let newest = stamps::newer_of(fits::stored(self, register), pair);
+        self.pairs[usize::from(register - 1)] = newest;
+        Ok(self.sending(self.reply(sender, Body::Ack)))
     }
 
-    // A response that counts, and what is gathered with it.
+    // A response that counts, with what its query has gathered.
     fn response_counted(
         mut self,
         n: u8,
         register: u8,
-        from: Pid,
-        time: Time,
+        sender: Sender,
         row: u16,
         gathered: Gathered,
-    ) -> Answer
-        requires { (self.clock.0 ≤ most_time) × (time.0 ≤ most_time) × (self.rid.0 ≤ most_rid) }
-        ensures { result ≡ response_counted self n register from time row gathered }
+    ) -> Handled
+        requires { (self.clock.0 ≤ most_time) × (sender.time.0 ≤ most_time) × (self.rid.0 ≤ most_rid) }
+        ensures { answered result ≡ response_counted self n register sender.from sender.time row gathered }
     {
-        let clock = after_receiving(self.clock, time);
-        let repliers = quorum::with(self.repliers, from.0);
+        self.clock = after_receiving(self.clock, sender.time);
+        let repliers = quorum::with(self.repliers, sender.from.0);
         if quorum::is_majority(repliers, n) {
-            let rid = Rid(self.rid.0 + 1);
-            let best = gathered.best;
-            self = store::move_to(self, clock, rid, Phase::Updating(row, best), 0);
-            let sends = sending::broadcast(clock, rid, Body::Update(register, best));
-            sending::conclude(self, sends, Ended::Query(repliers))
+            self.rid.0 += 1;
+            self.repliers = 0;
+            self.phase = Phase::Updating(row, gathered.best);
+            Handled {
+                replica: self,
+                sends: self.broadcast(Body::Update(register, gathered.best)),
+                ended: Ended::Query(repliers),
+            }
         } else {
-            let rid = self.rid;
-            self = store::move_to(self, clock, rid, Phase::Querying(row, gathered), repliers);
-            sending::accept(self, Sends::Nothing)
+            self.repliers = repliers;
+            self.phase = Phase::Querying(row, gathered);
+            self.sending(Sends::Nothing)
         }
     }
 
@@ -121,73 +101,60 @@ impl Replica {
         mut self,
         n: u8,
         register: u8,
-        from: Pid,
-        time: Time,
-        rid: Rid,
+        sender: Sender,
         pair: Pair,
-    ) -> Answer
-        ensures { result ≡ response_received self n register from time rid pair }
+    ) -> Result<Handled, Refusal>
+        ensures { answer self result ≡ response_received self n register sender.from sender.time sender.rid pair }
     {
-        let refusal = refusals::response_refusal(self, n, register, from, time, rid, pair);
-        if refusal != 0 {
-            return sending::refuse(refusal, self);
-        }
-        let phase = self.phase;
-        let own = self.rid;
-        let ResponseCounts::For(row, gathered) = counting::counts_response(phase, own, rid) else {
-            return sending::accept(self, Sends::Nothing);
-        };
-        self.response_counted(
-            n,
-            register,
-            from,
-            time,
-            row,
-            gathering::with_response(gathered, pair),
-        )
+        refusals::check_response(self, n, register, sender, pair)?;
+        Ok(match self.phase {
+            Phase::Querying(row, gathered) if sender.rid == self.rid => {
+                self.response_counted(n, register, sender, row, gathered.with(pair))
+            }
+            _ => self.sending(Sends::Nothing),
+        })
     }
 
     // An ack that counts, of the pair `sent`.
-    fn ack_counted(mut self, n: u8, from: Pid, time: Time, row: u16, sent: Pair) -> Answer
-        requires { (self.clock.0 ≤ most_time) × (time.0 ≤ most_time) × (self.rid.0 ≤ most_rid) }
-        ensures { result ≡ ack_counted self n from time row sent }
+    fn ack_counted(mut self, n: u8, sender: Sender, row: u16, sent: Pair) -> Handled
+        requires { (self.clock.0 ≤ most_time) × (sender.time.0 ≤ most_time) × (self.rid.0 ≤ most_rid) }
+        ensures { answered result ≡ ack_counted self n sender.from sender.time row sent }
     {
-        let clock = after_receiving(self.clock, time);
-        let repliers = quorum::with(self.repliers, from.0);
+        self.clock = after_receiving(self.clock, sender.time);
+        let repliers = quorum::with(self.repliers, sender.from.0);
         if quorum::is_majority(repliers, n) {
-            let rid = Rid(self.rid.0 + 1);
-            self = store::move_to(self, clock, rid, Phase::Idle, 0);
-            sending::conclude(self, Sends::Nothing, Ended::At(clock, sent, repliers))
+            self.rid.0 += 1;
+            self.repliers = 0;
+            self.phase = Phase::Idle;
+            Handled {
+                replica: self,
+                sends: Sends::Nothing,
+                ended: Ended::At(self.clock, sent, repliers),
+            }
         } else {
-            let rid = self.rid;
-            self = store::move_to(self, clock, rid, Phase::Updating(row, sent), repliers);
-            sending::accept(self, Sends::Nothing)
+            self.repliers = repliers;
+            self.phase = Phase::Updating(row, sent);
+            self.sending(Sends::Nothing)
         }
     }
 
-    pub fn ack_received(mut self, n: u8, from: Pid, time: Time, rid: Rid) -> Answer
-        ensures { result ≡ ack_received self n from time rid }
+    pub fn ack_received(mut self, n: u8, sender: Sender) -> Result<Handled, Refusal>
+        ensures { answer self result ≡ ack_received self n sender.from sender.time sender.rid }
     {
-        let refusal = refusals::ack_refusal(self, n, from, time, rid);
-        if refusal != 0 {
-            return sending::refuse(refusal, self);
-        }
-        let phase = self.phase;
-        let own = self.rid;
-        let AckCounts::For(row, sent) = counting::counts_ack(phase, own, rid) else {
-            return sending::accept(self, Sends::Nothing);
-        };
-        self.ack_counted(n, from, time, row, sent)
+        refusals::check_ack(self, n, sender)?;
+        Ok(match self.phase {
+            Phase::Updating(row, sent) if sender.rid == self.rid => {
+                self.ack_counted(n, sender, row, sent)
+            }
+            _ => self.sending(Sends::Nothing),
+        })
     }
 
-    pub fn crash(mut self) -> Answer
-        ensures { result ≡ crashed self }
+    pub fn crash(mut self) -> Result<Handled, Refusal>
+        ensures { answer self result ≡ crashed self }
     {
-        let refusal = refusals::crash_refusal(self);
-        if refusal != 0 {
-            return sending::refuse(refusal, self);
-        }
+        refusals::check_crash(self)?;
         self.crashed = true;
-        sending::accept(self, Sends::Nothing)
+        Ok(self.sending(Sends::Nothing))
     }
 }

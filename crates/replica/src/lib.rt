@@ -5,32 +5,31 @@
 use words::{Body, Pair, Pid, Rid, Time};
 
 mod clock;
-mod counting;
 mod fits;
 mod gathering;
 pub mod handlers;
 pub mod phases;
 mod refusals;
 mod sending;
-mod store;
 
-// What a query has gathered from the responses counted so far: the greatest pair.
-#[derive(Clone, Copy)]
+// What a query has gathered from the responses counted so far: the greatest pair, at first the starting pair.
+#[derive(Clone, Copy, Debug, Default, PartialEq, Eq)]
 pub struct Gathered {
     pub best: Pair,
 }
 
 // What a replica does: nothing; or it waits for replies on behalf of a row of the history. While querying it keeps what it has gathered,
 // while updating the pair that it sent.
-#[derive(Clone, Copy)]
+#[derive(Clone, Copy, Debug, Default, PartialEq, Eq)]
 pub enum Phase {
+    #[default]
     Idle,
     Querying(u16, Gathered),
     Updating(u16, Pair),
 }
 
-// A replica of which every number is 0 is up and idle. Register x is at place x - 1.
-#[derive(Clone, Copy)]
+// A replica by default is up and idle, and every number is 0. Register x is at place x - 1.
+#[derive(Clone, Copy, Debug, Default, PartialEq, Eq)]
 pub struct Replica {
     pub crashed: bool,
     pub clock: Time,
@@ -41,7 +40,7 @@ pub struct Replica {
 }
 
 // What a sender puts into a message; its number and its two ends are the carrier's to add.
-#[derive(Clone, Copy)]
+#[derive(Clone, Copy, Debug, PartialEq, Eq)]
 pub struct Letter {
     pub time: Time,
     pub rid: Rid,
@@ -49,7 +48,7 @@ pub struct Letter {
 }
 
 // What a handler sends: nothing, one reply, or one broadcast to all processes.
-#[derive(Clone, Copy)]
+#[derive(Clone, Copy, Debug, PartialEq, Eq)]
 pub enum Sends {
     Nothing,
     Reply(Pid, Letter),
@@ -58,32 +57,17 @@ pub enum Sends {
 
 // Whether a phase ended: none; the query phase, by the replies of these processes, and the operation goes on; or the operation, at this
 // response time with the chosen pair, by the acks of these.
-#[derive(Clone, Copy)]
+#[derive(Clone, Copy, Debug, PartialEq, Eq)]
 pub enum Ended {
     Pending,
     Query(u8),
     At(Time, Pair, u8),
 }
 
-// What a handler answers: a number of document 01 (0 is accepted), and what follows.
-#[derive(Clone, Copy)]
-pub struct Answer {
-    pub refusal: u8,
+// What an accepted event comes to: the next replica, and what follows.
+#[derive(Clone, Copy, Debug, PartialEq, Eq)]
+pub struct Handled {
     pub replica: Replica,
     pub sends: Sends,
     pub ended: Ended,
-}
-
-// Whether a response counts: not, or for this row, beside what its query has gathered.
-#[derive(Clone, Copy)]
-pub enum ResponseCounts {
-    Not,
-    For(u16, Gathered),
-}
-
-// Whether an ack counts: not, or for this row, of the pair that was sent.
-#[derive(Clone, Copy)]
-pub enum AckCounts {
-    Not,
-    For(u16, Pair),
 }

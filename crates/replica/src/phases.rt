@@ -8,20 +8,15 @@ use crate::Phase;
 pub fn is_idle(phase: Phase) -> bool
     ensures { result ≡ is_idle phase }
 {
-    match phase {
-        Phase::Idle => true,
-        Phase::Querying(_, _) => false,
-        Phase::Updating(_, _) => false,
-    }
+    matches!(phase, Phase::Idle)
 }
 
-// The row that a waiting replica points to, 0 while idle.
+// The row that a waiting replica points to. A number and no Option: rows count from 1, document 01 writes 0 while idle, and the caller would turn None back.
 pub fn pointed_by(phase: Phase) -> u16
     ensures { result ≡ pointed phase }
 {
     match phase {
         Phase::Idle => 0,
-        Phase::Querying(row, _) => row,
-        Phase::Updating(row, _) => row,
+        Phase::Querying(row, _) | Phase::Updating(row, _) => row,
     }
 }

@@ -1,12 +1,11 @@
-// Why a handler refuses: 18 outside the ranges, then 10, 11 or 13. 0 is accepted.
+// Why a handler refuses: outside the ranges; then a replica that has crashed, and for an invocation one that has an operation pending.
 ghost use Rattle.std.specs.Prelude.{◌≡◌};
+ghost use Rattle.words.specs.Refusals.{number, refusal_number};
 ghost use Rattle.replica.specs.Handlers.{
-  is_idle,
   begin_refusal,
   down_refusal,
   read_refusal,
   write_refusal,
-  stored_fits,
   request_fits,
   query_refusal,
   update_refusal,
@@ -16,139 +15,119 @@ ghost use Rattle.replica.specs.Handlers.{
   crash_refusal,
 };
 
-use crate::fits::replica_fits;
-use crate::{Phase, Replica, phases, store};
+use crate::Replica;
+use crate::fits::{replica_fits, stored_fits};
+use crate::phases::is_idle;
 use words::limits::{MOST_TIME, PROCESSES, REGISTERS};
 use words::ranges::{is_within, pair_fits, row_fits, sender_fits};
-use words::refusal::{CRASHED, NOT_FORMED, PENDING, RECIPIENT_CRASHED};
-use words::{Pair, Pid, Rid, Time};
+use words::refusal::Refusal;
+use words::{Pair, Pid, Sender};
 
 // Why an operation is not begun.
 #[tactic(auto, unfolding(crate::specs::Handlers::begin_refusal))]
-fn begin_refusal(fits: bool, crashed: bool, idle: bool) -> u8
-    ensures { result ≡ begin_refusal fits crashed idle }
+fn check_begin(fits: bool, crashed: bool, idle: bool) -> Result<(), Refusal>
+    ensures { refusal_number result ≡ begin_refusal fits crashed idle }
 {
-    if fits {
-        if crashed {
-            CRASHED
-        } else if idle {
-            0
-        } else {
-            PENDING
-        }
+    if !fits {
+        Err(Refusal::NotFormed)
+    } else if crashed {
+        Err(Refusal::Crashed)
+    } else if idle {
+        Ok(())
     } else {
-        NOT_FORMED
+        Err(Refusal::Pending)
     }
 }
 
-// Why a message is not received, or a crash not taken: `number` stands for a replica that is down.
+// Why a message is not received, or a crash not taken: `down` stands for a replica that is down.
 #[tactic(auto, unfolding(crate::specs::Handlers::down_refusal))]
-fn down_refusal(number: u8, fits: bool, crashed: bool) -> u8
-    ensures { result ≡ down_refusal number fits crashed }
+fn check_up(down: Refusal, fits: bool, crashed: bool) -> Result<(), Refusal>
+    ensures { refusal_number result ≡ down_refusal (number down) fits crashed }
 {
-    if fits {
-        if crashed { number } else { 0 }
+    if !fits {
+        Err(Refusal::NotFormed)
+    } else if crashed {
+        Err(down)
     } else {
-        NOT_FORMED
+        Ok(())
     }
 }
 
 #[tactic(auto, unfolding(crate::specs::Handlers::read_refusal))]
-pub fn read_refusal(r: Replica, register: u8, row: u16) -> u8
-    ensures { result ≡ read_refusal r register row }
+pub fn check_read(r: Replica, register: u8, row: u16) -> Result<(), Refusal>
+    ensures { refusal_number result ≡ read_refusal r register row }
 {
     let fits = replica_fits(PROCESSES, r) & is_within(register, REGISTERS) & row_fits(row);
-    let phase = r.phase;
-    begin_refusal(fits, r.crashed, phases::is_idle(phase))
+    check_begin(fits, r.crashed, is_idle(r.phase))
 }
 
 #[tactic(auto, unfolding(crate::specs::Handlers::write_refusal))]
-pub fn write_refusal(r: Replica, me: Pid, register: u8, row: u16) -> u8
-    ensures { result ≡ write_refusal r me register row }
+pub fn check_write(r: Replica, me: Pid, register: u8, row: u16) -> Result<(), Refusal>
+    ensures { refusal_number result ≡ write_refusal r me register row }
 {
     let fits = replica_fits(PROCESSES, r)
         & is_within(me.0, PROCESSES)
         & is_within(register, REGISTERS)
         & row_fits(row);
-    let phase = r.phase;
-    begin_refusal(fits, r.crashed, phases::is_idle(phase))
+    check_begin(fits, r.crashed, is_idle(r.phase))
 }
 
-// A register of 1 to 16 whose stored pair is inside the ranges.
-fn stored_fits(r: Replica, register: u8) -> bool
-    ensures { result ≡ stored_fits r register }
+fn request_fits(r: Replica, sender: Sender, register: u8) -> bool
+    ensures { result ≡ request_fits r sender.from sender.time sender.rid register }
 {
-    if is_within(register, REGISTERS) {
-        pair_fits(store::pair_of(r, register), MOST_TIME, PROCESSES)
-    } else {
-        false
-    }
-}
-
-fn request_fits(r: Replica, from: Pid, time: Time, rid: Rid, register: u8) -> bool
-    ensures { result ≡ request_fits r from time rid register }
-{
-    replica_fits(PROCESSES, r) & sender_fits(PROCESSES, from, time, rid) & stored_fits(r, register)
+    replica_fits(PROCESSES, r) & sender_fits(PROCESSES, sender) & stored_fits(r, register)
 }
 
 #[tactic(auto, unfolding(crate::specs::Handlers::query_refusal))]
-pub fn query_refusal(r: Replica, from: Pid, time: Time, rid: Rid, register: u8) -> u8
-    ensures { result ≡ query_refusal r from time rid register }
+pub fn check_query(r: Replica, sender: Sender, register: u8) -> Result<(), Refusal>
+    ensures { refusal_number result ≡ query_refusal r sender.from sender.time sender.rid register }
 {
-    down_refusal(
-        RECIPIENT_CRASHED,
-        request_fits(r, from, time, rid, register),
-        r.crashed,
-    )
+    let fits = request_fits(r, sender, register);
+    check_up(Refusal::RecipientCrashed, fits, r.crashed)
 }
 
 #[tactic(auto, unfolding(crate::specs::Handlers::update_refusal))]
-pub fn update_refusal(r: Replica, from: Pid, time: Time, rid: Rid, register: u8, pair: Pair) -> u8
-    ensures { result ≡ update_refusal r from time rid register pair }
+pub fn check_update(r: Replica, sender: Sender, register: u8, pair: Pair) -> Result<(), Refusal>
+    ensures { refusal_number result ≡ update_refusal r sender.from sender.time sender.rid register pair }
 {
-    let fits = request_fits(r, from, time, rid, register) & pair_fits(pair, MOST_TIME, PROCESSES);
-    down_refusal(RECIPIENT_CRASHED, fits, r.crashed)
+    let fits = request_fits(r, sender, register) & pair_fits(pair, MOST_TIME, PROCESSES);
+    check_up(Refusal::RecipientCrashed, fits, r.crashed)
 }
 
 // A reply is counted, so N is known here: the sender is one of 1 to `n`, and so are those that replied before it.
-fn reply_fits(r: Replica, n: u8, from: Pid, time: Time, rid: Rid) -> bool
-    ensures { result ≡ reply_fits r n from time rid }
+fn reply_fits(r: Replica, n: u8, sender: Sender) -> bool
+    ensures { result ≡ reply_fits r n sender.from sender.time sender.rid }
 {
-    replica_fits(n, r) & sender_fits(n, from, time, rid) & is_within(n, PROCESSES)
+    replica_fits(n, r) & sender_fits(n, sender) & is_within(n, PROCESSES)
 }
 
 #[tactic(auto, unfolding(crate::specs::Handlers::response_refusal))]
-pub fn response_refusal(
+pub fn check_response(
     r: Replica,
     n: u8,
     register: u8,
-    from: Pid,
-    time: Time,
-    rid: Rid,
+    sender: Sender,
     pair: Pair,
-) -> u8
-    ensures { result ≡ response_refusal r n register from time rid pair }
+) -> Result<(), Refusal>
+    ensures { refusal_number result ≡ response_refusal r n register sender.from sender.time sender.rid pair }
 {
-    let fits = reply_fits(r, n, from, time, rid)
+    let fits = reply_fits(r, n, sender)
         & is_within(register, REGISTERS)
         & pair_fits(pair, MOST_TIME, PROCESSES);
-    down_refusal(RECIPIENT_CRASHED, fits, r.crashed)
+    check_up(Refusal::RecipientCrashed, fits, r.crashed)
 }
 
 #[tactic(auto, unfolding(crate::specs::Handlers::ack_refusal))]
-pub fn ack_refusal(r: Replica, n: u8, from: Pid, time: Time, rid: Rid) -> u8
-    ensures { result ≡ ack_refusal r n from time rid }
+pub fn check_ack(r: Replica, n: u8, sender: Sender) -> Result<(), Refusal>
+    ensures { refusal_number result ≡ ack_refusal r n sender.from sender.time sender.rid }
 {
-    down_refusal(
-        RECIPIENT_CRASHED,
-        reply_fits(r, n, from, time, rid),
-        r.crashed,
-    )
+    let fits = reply_fits(r, n, sender);
+    check_up(Refusal::RecipientCrashed, fits, r.crashed)
 }
 
 #[tactic(auto, unfolding(crate::specs::Handlers::crash_refusal))]
-pub fn crash_refusal(r: Replica) -> u8
-    ensures { result ≡ crash_refusal r }
+pub fn check_crash(r: Replica) -> Result<(), Refusal>
+    ensures { refusal_number result ≡ crash_refusal r }
 {
-    down_refusal(CRASHED, replica_fits(PROCESSES, r), r.crashed)
+    check_up(Refusal::Crashed, replica_fits(PROCESSES, r), r.crashed)
 }

@@ -1,59 +1,43 @@
-// What a handler answers with: a refusal, or the next replica and what it sends.
+// What a handler answers with: the next replica and what it sends.
 ghost use Rattle.std.specs.Prelude.{◌≡◌};
-ghost use Rattle.replica.specs.Handlers.{accepted, refused, reply_of, broadcast_of};
+ghost use Rattle.replica.specs.Handlers.{broadcast_of, reply_of};
+ghost use Rattle.replica.specs.Answer.{handled};
 ghost use Rattle.replica.specs.declared.Ended.TheVariants.{Pending};
 
-use crate::{Answer, Ended, Letter, Replica, Sends};
-use words::{Body, Pid, Rid, Time};
+use crate::{Ended, Handled, Letter, Replica, Sends};
+use words::{Body, Sender};
 
-pub fn refuse(number: u8, replica: Replica) -> Answer
-    ensures { result ≡ refused number replica }
-{
-    Answer {
-        refusal: number,
-        replica: replica,
-        sends: Sends::Nothing,
-        ended: Ended::Pending,
+impl Replica {
+    // No phase ended.
+    pub(crate) fn sending(self, sends: Sends) -> Handled
+        ensures { result ≡ handled self sends Pending }
+    {
+        Handled {
+            replica: self,
+            sends,
+            ended: Ended::Pending,
+        }
     }
-}
 
-pub fn accept(replica: Replica, sends: Sends) -> Answer
-    ensures { result ≡ accepted replica sends Pending }
-{
-    conclude(replica, sends, Ended::Pending)
-}
-
-// A phase may have ended.
-pub fn conclude(replica: Replica, sends: Sends, ended: Ended) -> Answer
-    ensures { result ≡ accepted replica sends ended }
-{
-    Answer {
-        refusal: 0,
-        replica: replica,
-        sends: sends,
-        ended: ended,
+    pub(crate) fn broadcast(self, body: Body) -> Sends
+        ensures { result ≡ broadcast_of self.clock.0 self.rid.0 body }
+    {
+        Sends::Broadcast(Letter {
+            time: self.clock,
+            rid: self.rid,
+            body,
+        })
     }
-}
 
-pub fn broadcast(time: Time, rid: Rid, body: Body) -> Sends
-    ensures { result ≡ broadcast_of time.0 rid.0 body }
-{
-    Sends::Broadcast(Letter {
-        time: time,
-        rid: rid,
-        body: body,
-    })
-}
-
-pub fn reply(to: Pid, time: Time, rid: Rid, body: Body) -> Sends
-    ensures { result ≡ reply_of to time.0 rid.0 body }
-{
-    Sends::Reply(
-        to,
-        Letter {
-            time: time,
-            rid: rid,
-            body: body,
-        },
-    )
+    // A reply bears the request's number.
+    pub(crate) fn reply(self, sender: Sender, body: Body) -> Sends
+        ensures { result ≡ reply_of sender.from self.clock.0 sender.rid.0 body }
+    {
+        let letter = Letter {
+            time: self.clock,
+            rid: sender.rid,
+            body,
+        };
+        Sends::Reply(sender.from, letter)
+    }
 }

@@ -8,7 +8,7 @@ use Rattle.words.specs.declared.Body.{Body}
 use Rattle.words.specs.declared.Message.{Message}
 use Rattle.words.specs.Quorum.{member, joined, counted}
 use Rattle.words.specs.QuorumLaws.{Inside, joined-only}
-use Rattle.replica.specs.declared.Answer.{Answer}
+use Rattle.replica.specs.Answer.{Answer}
 use Rattle.replica.specs.declared.Replica.{Replica}
 use Rattle.replica.specs.Gathering.{gathered_with}
 use Rattle.replica.specs.Handlers.{discarded, read_rule, write_rule, query_rule, update_rule, crash_rule}

@@ -1,5 +1,5 @@
 -- What the plain rules answer to a message, as cases. The four answers to a reply that counts: with it a majority has replied, or not yet.
-use Rattle.std.specs.Prelude.{ℕ, ◌+◌, ◌≡◌, Bool, cond, eqb, leb}
+use Rattle.std.specs.Prelude.{ℕ, ◌+◌, ◌≡◌, Bool, cond, eqb, leb, Some, None}
 use Rattle.std.proofs.Math.Path.{refl}
 use Rattle.std.proofs.Math.Bool.{true, false}
 use Rattle.std.proofs.Common.{eqb-true}
@@ -10,18 +10,17 @@ use Rattle.words.specs.declared.Pair.{Pair}
 use Rattle.words.specs.declared.Pid.{Pid}
 use Rattle.words.specs.declared.Time.{Time}
 use Rattle.words.specs.Quorum.{joined, counted, majority_of}
-use Rattle.replica.specs.declared.Answer.{Answer}
-use Rattle.replica.specs.declared.AckCounts.TheVariants.{Not as NoAck, For as AckFor}
+use Rattle.replica.specs.Answer.{Answer}
 use Rattle.replica.specs.declared.Ended.TheVariants.{Pending, Query as Queried, At}
 use Rattle.replica.specs.declared.Gathered.{Gathered}
 use Rattle.replica.specs.declared.Phase.{Phase}
 use Rattle.replica.specs.declared.Phase.TheVariants.{Idle, Querying, Updating}
 use Rattle.replica.specs.declared.Replica.{Replica}
-use Rattle.replica.specs.declared.ResponseCounts.TheVariants.{Not, For}
 use Rattle.replica.specs.declared.Sends.TheVariants.{Nothing}
 use Rattle.replica.specs.Clock.{after}
 use Rattle.replica.specs.Gathering.{gathered_with}
-use Rattle.replica.specs.Handlers.{became, accepted, discarded, broadcast_of, query_rule, update_rule}
+use Rattle.replica.specs.Handlers.{became, discarded, broadcast_of, query_rule, update_rule}
+use Rattle.replica.specs.Answer.{accepted}
 use Rattle.replica.specs.Handlers.{response_counts, response_counted, response_taken, response_rule, ack_counts, ack_counted, ack_taken, ack_rule}
 use Rattle.state.specs.State.{State}
 use Rattle.state.specs.Step.{asked_register}
@@ -99,7 +98,7 @@ module _ (n x : ℕ) (r : Replica) (m : Message) where
       made present false h = Answers.asks pair row gathered f present h
 
       counts : (b : Bool) → eqb m.rid.0 r.rid.0 ≡ b
-          → Given (Response pair) (response_taken (cond b (For row gathered) Not) r n x m.from m.time pair)
+          → Given (Response pair) (response_taken (cond b (Some (row, gathered)) None) r n x m.from m.time pair)
       counts true g = made (eqb-true _ _ g) (is_majority n r m.from) refl
       counts false g = Answers.discards (Response pair)
 
@@ -114,7 +113,7 @@ module _ (n x : ℕ) (r : Replica) (m : Message) where
       made present true h = Answers.ends row sent f present h
       made present false h = Answers.waits row sent f present h
 
-      counts : (b : Bool) → eqb m.rid.0 r.rid.0 ≡ b → Given Ack (ack_taken (cond b (AckFor row sent) NoAck) r n m.from m.time)
+      counts : (b : Bool) → eqb m.rid.0 r.rid.0 ≡ b → Given Ack (ack_taken (cond b (Some (row, sent)) None) r n m.from m.time)
       counts true g = made (eqb-true _ _ g) (is_majority n r m.from) refl
       counts false g = Answers.discards Ack
 

@@ -11,7 +11,7 @@ use Rattle.words.specs.declared.Message.{Message}
 use Rattle.words.specs.declared.Pair.{Pair}
 use Rattle.words.specs.Quorum.{joined, counted}
 use Rattle.words.specs.QuorumLaws.{Inside, joined-inside}
-use Rattle.replica.specs.declared.Answer.{Answer}
+use Rattle.replica.specs.Answer.{Answer}
 use Rattle.replica.specs.declared.Ended.{Ended}
 use Rattle.replica.specs.declared.Ended.TheVariants.{Pending, Query as Queried, At}
 use Rattle.replica.specs.declared.Phase.TheVariants.{Updating}

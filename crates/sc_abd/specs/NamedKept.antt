@@ -9,7 +9,7 @@ use Rattle.std.proofs.Math.Seq.{get_or-append_seam}
 use Rattle.words.specs.declared.Message.{Message}
 use Rattle.words.specs.Quorum.{member}
 use Rattle.words.specs.QuorumLaws.{joined-has, joined_keeps, joined-only}
-use Rattle.replica.specs.declared.Answer.{Answer}
+use Rattle.replica.specs.Answer.{Answer}
 use Rattle.replica.specs.declared.Phase.TheVariants.{Idle}
 use Rattle.replica.specs.declared.Replica.{Replica}
 use Rattle.replica.specs.Numbers.{pointed}

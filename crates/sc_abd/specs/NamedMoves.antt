@@ -17,7 +17,8 @@ use Rattle.replica.specs.declared.Replica.{Replica}
 use Rattle.replica.specs.declared.Sends.{Sends}
 use Rattle.replica.specs.declared.Sends.TheVariants.{Nothing}
 use Rattle.replica.specs.Gathering.{nothing_gathered, gathered_with}
-use Rattle.replica.specs.Handlers.{accepted, is_idle, stored}
+use Rattle.replica.specs.Handlers.{is_idle, stored}
+use Rattle.replica.specs.Answer.{accepted}
 use Rattle.replica.specs.Numbers.{pointed}
 use Rattle.tables.specs.declared.Kind.{Kind}
 use Rattle.tables.specs.declared.Kind.TheVariants.{Read as ReadKind, Write as WriteKind}

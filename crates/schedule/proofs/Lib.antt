@@ -1,5 +1,4 @@
 pub mod RunLaws
-pub mod BehindLaws
 pub mod TurnLaws
 pub mod OpeningLaws
 pub mod FileLaws

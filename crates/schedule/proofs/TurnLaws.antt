@@ -1,145 +1,97 @@
--- What a turn that was carried out or stopped comes to; and that a run is its first turn and the run of the rest.
-use Rattle.std.specs.Prelude.{ℕ, suc, ◌-◌, ◌<◌, ◌≡◌, refl, Bool, true, false, cond, List, eqb, length}
-use Rattle.std.proofs.Common.{sym, ap, subst, ◌∙◌, arith}
+-- What stops a turn, and what an event that is carried out leaves to be done; and that a run is its turns.
+use Rattle.std.specs.Prelude.{ℕ, ◌≡◌, refl, Bool, true, false, cond, List, eqb}
+use Rattle.std.proofs.Common.{sym, ap, subst, ◌∙◌, eq-eqb, ne_eqb}
+use Rattle.words.specs.declared.refusal.Refusal.{Refusal}
 use Rattle.words.specs.declared.Message.{Message}
+use Rattle.words.specs.Refusals.{number}
+use Rattle.words.proofs.RefusalLaws.{number-some}
 use Rattle.tables.specs.declared.Row.{Row}
 use Rattle.state.specs.declared.Bench.{Bench}
 use Rattle.state.specs.declared.Event.{Event}
-use Rattle.state.specs.declared.Stepped.{Stepped}
+use Rattle.state.specs.Stepped.{Stepped}
 use Rattle.state.specs.State.{State, view, laid_messages, laid_rows}
-use Rattle.state.specs.Step.{step}
+use Rattle.state.specs.Step.{Outcome, step}
 use Rattle.state.specs.Tabled.{tabled, bench_of}
-use Rattle.state.proofs.Sized.{Sized}
-use Rattle.state.specs.WellFormed.{well_formed}
-use Rattle.format.specs.Parse.{Parse}
-use Rattle.format.specs.Parse.{Next, Refused, End}
+use Rattle.state.proofs.Refusals.{refused-changes-nothing}
+use Rattle.format.specs.Parse.{Parse, Next, Refused, End}
 use Rattle.format.specs.Format.{event_at}
 use Rattle.advance.specs.Advanced.{Advanced}
 use Rattle.advance.specs.Good.{messages-are, rows_are, bench-is}
-use Rattle.schedule.specs.declared.Turn.{Turn}
-use Rattle.schedule.specs.Run.{Ran, stopped, ran}
+use Rattle.advance.proofs.TabledLaws.{tabled-well, tabled-sized, holds-tabled, holds-view, stays-tabled}
+use Rattle.schedule.specs.Run.{Ran, stopped, followed, turned, ran}
 use Rattle.schedule.specs.EventLaws.{Onward, onward}
-use Rattle.schedule.proofs.BehindLaws.{left, left_by, turned_left}
+use Rattle.schedule.specs.Turns.{RanOn, Goes, Stops}
 use Rattle.schedule.proofs.RunLaws.{run-turn, run-well-formed, run-sized}
-use Rattle.advance.proofs.TabledLaws.{step-well, step-sized, tabled-well, tabled-sized, holds-tabled, holds-view}
-use Rattle.schedule.specs.Turns.{RanOn, went_on, stopped_at, begun_at, ended_at, Went, went, turn_of, Turned}
 
--- ---- of a bench and its tables
+-- ---- one turn
 
-on-is : (r : Stepped) (o : ℕ) (c : Bench) (at : ℕ) → r.refusal ≡ o → r.bench ≡ c → went_on r at ≡ record { go = eqb o 0; refusal = o; bench = c; at = at }
-on-is r o c at e f = rw (e, f) refl
-
-pub carried : (b : Bench) (event : Event) (at : ℕ) (messages : List Message) (rows : List Row) (t : Turn) (r : Stepped) (messages' : List Message) (rows' : List Row)
-    → t ≡ went_on r at → Advanced b event messages rows r messages' rows' → Turned b (Next event at) messages rows t messages' rows'
-carried b event at messages rows t r messages' rows' e a =
-    record {
-      turn = e ∙ on-is r (step (view b messages rows) event).refusal (bench_of (step (view b messages rows) event).state) at a.refusal a.bench;
-      messages-laid = a.messages-laid;
-      rows-laid = a.rows-laid;
-    }
-
-pub halted : (b : Bench) (found : Parse) (number : ℕ) (messages : List Message) (rows : List Row) (t : Turn) → tabled b messages rows ≡ true
-    → found ≡ Refused number → t ≡ stopped_at b number → Turned b found messages rows t messages rows
-halted b found number messages rows t h is e =
-    rw is
-    (record {
-      turn = e ∙ ap (λ (c : Bench). stopped_at c number) (bench-is b messages rows h);
-      messages-laid = messages-are b messages rows h;
-      rows-laid = rows_are b messages rows h;
-    })
-
--- the end stops a run as a refusal by 0 would
-pub halted-end : (b : Bench) (found : Parse) (messages : List Message) (rows : List Row) (t : Turn) → tabled b messages rows ≡ true
-    → found ≡ End → t ≡ stopped_at b 0 → Turned b found messages rows t messages rows
-halted-end b found messages rows t h is e =
-    let d = halted b (Refused 0) 0 messages rows t h refl e in
-    rw is (record { turn = d.turn; messages-laid = d.messages-laid; rows-laid = d.rows-laid })
-
--- ---- of a state
-
-went-well : (s : State) (parse : Parse) → well_formed s ≡ true → well_formed (went s parse).state ≡ true
-went-well s (Next event at) w = step-well s event w
-went-well s (Refused number) w = w
-went-well s End w = w
-
-went-sized : (s : State) (parse : Parse) → Sized s → Sized (went s parse).state
-went-sized s (Next event at) z = step-sized s event z
-went-sized s (Refused number) z = z
-went-sized s End z = z
-
-run-left : (bytes : List ℕ) (at : ℕ) (s : State) → left_by bytes (went s (event_at bytes at)) ≡ ran bytes at s
-run-left bytes at s = sym (run-turn bytes at s ∙ turned_left bytes s (event_at bytes at))
-
--- ---- the loop: what a turn begins with
-
--- how much is left at most
-abbrev pub measure : List ℕ → Turn → ℕ
-measure bytes t = cond t.go (suc (length bytes - t.at)) 0
-
-pub record Going (bytes : List ℕ) (t : Turn) (messages : List Message) (rows : List Row) (all : Ran) : Type 0 where
-  pub tables : tabled t.bench messages rows ≡ true
-  pub rest : left bytes t.go t.refusal t.at (view t.bench messages rows) ≡ all
-
-pub begins : (b : Bench) (bytes : List ℕ) (at : ℕ) (messages : List Message) (rows : List Row) (t : Turn) → tabled b messages rows ≡ true → t ≡ begun_at b at
-    → Going bytes t messages rows (ran bytes at (view b messages rows))
-begins b bytes at messages rows t h e = subst (λ (u : Turn). Going bytes u messages rows (ran bytes at (view b messages rows))) (sym e) (record { tables = h; rest = refl })
-
-module _ (bytes : List ℕ) (t : Turn) (messages : List Message) (rows : List Row) (all : Ran) (g : Going bytes t messages rows all) (on : t.go ≡ true)
-    (r : Turn) (messages' : List Message) (rows' : List Row) (d : Turned t.bench (event_at bytes t.at) messages rows r messages' rows') where
+module _ (b : Bench) (bytes : List ℕ) (at : ℕ) (messages : List Message) (rows : List Row) where
   abbrev s : State
-  s = view t.bench messages rows
+  s = view b messages rows
 
-  abbrev w : Went
-  w = went s (event_at bytes t.at)
+  by_parse : (parse : Parse) → parse ≡ event_at bytes at → ran bytes at s ≡ turned s (λ j t. ran bytes j t) parse
+  by_parse parse e = run-turn bytes at s ∙ ap (turned s (λ j t. ran bytes j t)) (sym e)
 
-  bench-of : r.bench ≡ bench_of w.state
-  bench-of = ap (λ (u : Turn). u.bench) d.turn
+  pub stops-unread : (k : ℕ) → Refused k ≡ event_at bytes at → Stops b bytes at messages rows k messages rows
+  stops-unread k e = record { run = by_parse (Refused k) e; messages-stay = refl; rows-stay = refl }
 
-  view_of : view r.bench messages' rows' ≡ w.state
-  view_of = holds-view w.state r.bench messages' rows' (bench-of, d.messages-laid, d.rows-laid)
+  pub stops-ended : End ≡ event_at bytes at → Stops b bytes at messages rows 0 messages rows
+  stops-ended e = record { run = by_parse End e; messages-stay = refl; rows-stay = refl }
 
-  rest_of : left bytes r.go r.refusal r.at (view r.bench messages' rows') ≡ left_by bytes w
-  rest_of = ap (left bytes r.go r.refusal r.at) view_of ∙ ap (λ (u : Turn). left bytes u.go u.refusal u.at w.state) d.turn
+  module _ (h : tabled b messages rows ≡ true) (event : Event) (at' : ℕ) (f : Next event at' ≡ event_at bytes at) (messages' : List Message) (rows' : List Row) where
+    abbrev after : Outcome
+    after = step s event
 
-  run_is : ran bytes t.at s ≡ all
-  run_is = sym (ap (λ (c : Bool). left bytes c t.refusal t.at s) on) ∙ g.rest
+    abbrev rest : Bool → Ran
+    rest t = cond t (ran bytes at' after.state) (stopped after.refusal s)
 
-  pub goes : Going bytes r messages' rows' all
-  goes =
-      record {
-        tables = holds-tabled w.state r.bench messages' rows' (bench-of, d.messages-laid, d.rows-laid)
-            (went-well s (event_at bytes t.at) (tabled-well t.bench messages rows g.tables))
-            (went-sized s (event_at bytes t.at) (tabled-sized t.bench messages rows g.tables));
-        rest = rest_of ∙ run-left bytes t.at s ∙ run_is;
-      }
+    pub stops-refused : (e : Refusal) → Advanced b event messages rows (record { refusal = number e; bench = b }) messages' rows' → Stops b bytes at messages rows (number e) messages' rows'
+    stops-refused e a =
+        let same : after.state ≡ s = refused-changes-nothing s event (λ z. number-some e (a.refusal ∙ z)) in
+        let none : eqb after.refusal 0 ≡ false = ne_eqb after.refusal 0 (λ z. number-some e (a.refusal ∙ z)) in
+        record {
+          run = by_parse (Next event at') f ∙ ap rest none ∙ ap (λ (k : ℕ). stopped k s) (sym a.refusal);
+          messages-stay = a.messages-laid ∙ ap laid_messages same ∙ sym (messages-are b messages rows h);
+          rows-stay = a.rows-laid ∙ ap laid_rows same ∙ sym (rows_are b messages rows h);
+        }
 
-  nearer : (parse' : Parse) → Onward bytes t.at parse' → measure bytes (turn_of (went s parse')) < suc (length bytes - t.at)
-  nearer (Next event at) o = by-test (eqb (step s event).refusal 0)
-    where
-      by-test : (c : Bool) → cond c (suc (length bytes - at)) 0 < suc (length bytes - t.at)
-      by-test true = omega (arith, o.0, o.1)
-      by-test false = omega arith
-  nearer (Refused number) o = omega arith
-  nearer End o = omega arith
+    pub goes : (b' : Bench) → Advanced b event messages rows (record { refusal = 0; bench = b' }) messages' rows' → Goes b bytes at messages rows b' at' messages' rows'
+    goes b' a =
+        let on : Onward bytes at (Next event at') = subst (Onward bytes at) (sym f) (onward bytes at) in
+        let now : view b' messages' rows' ≡ after.state = holds-view after.state b' messages' rows' (a.bench, a.messages-laid, a.rows-laid) in
+        record {
+          tables = stays-tabled b event messages rows (record { refusal = 0; bench = b' }) messages' rows' h a;
+          rest = by_parse (Next event at') f ∙ ap rest (eq-eqb after.refusal 0 (sym a.refusal)) ∙ ap (ran bytes at') (sym now);
+          further = on.0;
+          within = on.1;
+        }
 
-  pub smaller : measure bytes r < measure bytes t
-  smaller =
-      subst (λ (c : Bool). measure bytes r < cond c (suc (length bytes - t.at)) 0) (sym on)
-      (subst (λ (u : Turn). measure bytes u < suc (length bytes - t.at)) (sym d.turn) (nearer (event_at bytes t.at) (onward bytes t.at)))
+-- ---- the loop: the bench is tabled, and what is still to be done is the whole run
 
-pub ends : (b : Bench) (bytes : List ℕ) (at : ℕ) (messages : List Message) (rows : List Row) (t : Turn) (messages' : List Message) (rows' : List Row)
-    → Going bytes t messages' rows' (ran bytes at (view b messages rows)) → t.go ≡ false → (r : Stepped) → r ≡ ended_at t
-    → RanOn b bytes at messages rows r messages' rows'
-ends b bytes at messages rows t messages' rows' g off r e =
+pub record Going (bytes : List ℕ) (b : Bench) (at : ℕ) (messages : List Message) (rows : List Row) (all : Ran) : Type 0 where
+  pub tables : tabled b messages rows ≡ true
+  pub rest : ran bytes at (view b messages rows) ≡ all
+
+module _ (bytes : List ℕ) (b : Bench) (at : ℕ) (messages : List Message) (rows : List Row) (all : Ran) (g : Going bytes b at messages rows all) where
+  pub goes-on : (b' : Bench) (at' : ℕ) (messages' : List Message) (rows' : List Row) → Goes b bytes at messages rows b' at' messages' rows' → Going bytes b' at' messages' rows' all
+  goes-on b' at' messages' rows' t = record { tables = t.tables; rest = sym t.rest ∙ g.rest }
+
+  stopped_there : (k : ℕ) (messages' : List Message) (rows' : List Row) → Stops b bytes at messages rows k messages' rows' → stopped k (view b messages rows) ≡ all
+  stopped_there k messages' rows' t = sym t.run ∙ g.rest
+
+pub ends : (b : Bench) (bytes : List ℕ) (at : ℕ) (messages : List Message) (rows : List Row) (b' : Bench) (at' : ℕ) (messages' : List Message) (rows' : List Row)
+    → Going bytes b' at' messages' rows' (ran bytes at (view b messages rows)) → (k : ℕ) (left_messages : List Message) (left_rows : List Row)
+    → Stops b' bytes at' messages' rows' k left_messages left_rows → RanOn b bytes at messages rows (record { refusal = k; bench = b' }) left_messages left_rows
+ends b bytes at messages rows b' at' messages' rows' g k left_messages left_rows t =
     record {
-      refusal = ap (λ (u : Stepped). u.refusal) e ∙ ap (λ (x : Ran). x.refusal) is;
-      bench = ap (λ (u : Stepped). u.bench) e ∙ bench-is t.bench messages' rows' g.tables ∙ ap (λ (x : Ran). bench_of x.state) is;
-      messages-laid = messages-are t.bench messages' rows' g.tables ∙ ap (λ (x : Ran). laid_messages x.state) is;
-      rows-laid = rows_are t.bench messages' rows' g.tables ∙ ap (λ (x : Ran). laid_rows x.state) is;
+      refusal = ap (λ (x : Ran). x.refusal) is;
+      bench = bench-is b' messages' rows' g.tables ∙ ap (λ (x : Ran). bench_of x.state) is;
+      messages-laid = t.messages-stay ∙ messages-are b' messages' rows' g.tables ∙ ap (λ (x : Ran). laid_messages x.state) is;
+      rows-laid = t.rows-stay ∙ rows_are b' messages' rows' g.tables ∙ ap (λ (x : Ran). laid_rows x.state) is;
     }
   where
-    is : stopped t.refusal (view t.bench messages' rows') ≡ ran bytes at (view b messages rows)
-    is = sym (ap (λ (c : Bool). left bytes c t.refusal t.at (view t.bench messages' rows')) off) ∙ g.rest
+    is : stopped k (view b' messages' rows') ≡ ran bytes at (view b messages rows)
+    is = stopped_there bytes b' at' messages' rows' (ran bytes at (view b messages rows)) g k left_messages left_rows t
 
 -- ---- what is tabled, stays so over a run
 

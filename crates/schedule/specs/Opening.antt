@@ -3,7 +3,7 @@ use Rattle.std.specs.Prelude.{ℕ, Bool, cond, not, ◌&&◌, List, eqb, length}
 use Rattle.words.specs.declared.Message.{Message}
 use Rattle.words.specs.Limits.{most_flight, most_rows}
 use Rattle.tables.specs.declared.Row.{Row}
-use Rattle.state.specs.declared.Stepped.{Stepped}
+use Rattle.state.specs.Stepped.{Stepped}
 use Rattle.state.specs.State.{State, fresh, laid_messages, laid_rows}
 use Rattle.state.specs.Step.{check}
 use Rattle.state.specs.Tabled.{bench_of}

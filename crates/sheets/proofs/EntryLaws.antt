@@ -1,108 +1,49 @@
 -- What is counted of a run over a table of 1,024 rows is what its file adds.
 use Rattle.std.specs.Prelude.{ℕ, ◌-◌, ◌≤◌, ◌<◌, ◌≡◌, Bool, not, ◌||◌, List, [], ltb, length, take}
-use Rattle.std.proofs.Math.Path.{refl, ap}
-use Rattle.std.proofs.Common.{sym, subst, ◌∙◌, arith, eqb-true, ne_eqb}
+use Rattle.std.proofs.Math.Path.{ap}
+use Rattle.std.proofs.Common.{sym, subst, ◌∙◌, arith, eq-eqb}
 use Rattle.std.proofs.Math.Bool.{true, false, cond}
 use Rattle.std.proofs.Math.Dec.{eqb}
-use Rattle.std.proofs.Math.Seq.{take-append_seam}
+use Rattle.words.specs.declared.refusal.Refusal.{Refusal}
+use Rattle.words.specs.Refusals.{number}
 use Rattle.words.specs.Ranges.{within}
 use Rattle.tables.specs.declared.Row.{Row}
-use Rattle.state.specs.declared.Stepped.{Stepped}
-use Rattle.state.specs.State.{State, laid_rows}
-use Rattle.state.specs.Tabled.{bench_of}
-use Rattle.bench.specs.Start.{no_bench, replied}
+use Rattle.state.specs.declared.Bench.{Bench}
+use Rattle.state.specs.Stepped.{Stepped}
+use Rattle.state.specs.State.{State}
 use Rattle.format.specs.Format.{byte_at, word_at, file_refusal}
-use Rattle.schedule.specs.Opening.{opening_refusal, ran_file, run_reply}
-use Rattle.replaying.specs.Replayed.{rows_left}
-use Rattle.replaying.proofs.ReplayedLaws.{Stopped, some-process, rows_few, rows_long}
+use Rattle.schedule.specs.Opening.{ran_file}
+use Rattle.replaying.proofs.ReplayedLaws.{Stopped, used-rows, rows_few, rows_long}
 use Rattle.figures.specs.declared.History.{History}
 use Rattle.figures.specs.declared.Entry.{Entry}
 use Rattle.figures.specs.Figures.{history_of, traffic_of, no_traffic}
 use Rattle.sheets.specs.Sheet.{added_by}
-use Rattle.figures.specs.Parts.{entry_of}
+use Rattle.figures.specs.Parts.{run_entry, refused_entry}
 
-module _ (bytes : List ℕ) (rows : List Row) (long : length rows ≡ 1024) (s : Stepped) (e : s ≡ run_reply 512 (length rows) bytes) (rows' : List Row) (f : rows' ≡ rows_left bytes rows) where
+module _ (bytes : List ℕ) where
   abbrev state : State
   state = (ran_file bytes).state
-
-  -- by whether the file is refused
-  number_is : opening_refusal 512 (length rows) bytes ≡ file_refusal bytes
-  unfolding opening_refusal
-  number_is = rw long refl
-
-  abbrev reply : Bool → Stepped
-  reply t = cond t (replied (ran_file bytes).refusal (bench_of state)) (replied (opening_refusal 512 (length rows) bytes) no_bench)
-
-  reply-is : (t : Bool) → eqb (file_refusal bytes) 0 ≡ t → s ≡ reply t
-  unfolding run_reply
-  reply-is t z = e ∙ ap reply (ap (λ (k : ℕ). eqb k 0) number_is ∙ z)
-
-  left_is : (t : Bool) → eqb (file_refusal bytes) 0 ≡ t → rows' ≡ cond t (laid_rows state) rows
-  unfolding rows_left
-  left_is t z = f ∙ ap (λ (u : Bool). cond u (laid_rows state) rows) (ap (λ (k : ℕ). eqb k 0) number_is ∙ z)
-
-  -- what is counted
-  abbrev counted : Entry
-  counted = entry_of s (history_of (take s.bench.rows rows'))
 
   abbrev adds : Bool → Entry
   adds t =
       cond t (record { refusal = 0; history = history_of state.rows; traffic = traffic_of state })
       (record { refusal = file_refusal bytes; history = history_of []; traffic = no_traffic })
 
-  module _ (z : eqb (file_refusal bytes) 0 ≡ true) where
-    stopped : Stopped bytes s rows'
-    stopped =
-        record {
-          file = eqb-true (file_refusal bytes) 0 z;
-          refusal = ap (λ (x : Stepped). x.refusal) (reply-is true z);
-          bench = ap (λ (x : Stepped). x.bench) (reply-is true z);
-          laid = left_is true z;
-        }
+  -- a schedule that starts a bench
+  module _ (r : Stepped) (rows : List Row) (s : Stopped bytes r rows) where
+    pub used-fit : r.bench.rows ≤ length rows
+    used-fit = omega (arith, rows_few bytes r rows s, rows_long bytes r rows s)
 
-    fits-run : s.bench.rows ≤ length rows'
-    fits-run = omega (arith, rows_few bytes s rows' stopped, rows_long bytes s rows' stopped)
+    pub run-counted : (h : History) → h ≡ history_of (take r.bench.rows rows) → run_entry r.bench h ≡ added_by bytes
+    unfolding added_by
+    run-counted h e =
+        ap (run_entry r.bench) (e ∙ ap history_of (used-rows bytes r rows s)) ∙ ap (λ (b : Bench). run_entry b (history_of state.rows)) s.bench
+        ∙ sym (ap adds (eq-eqb (file_refusal bytes) 0 s.file))
 
-    not_none : (s.bench.n ≡ 0 → ⊥)
-    not_none h = omega (arith, some-process bytes s rows' stopped)
-
-    is-run : counted ≡ adds true
-    is-run =
-        ap (λ (t : Bool). of_number (cond t s.refusal 0)) (ne_eqb s.bench.n 0 not_none)
-        ∙ ap (λ (x : Stepped). record { refusal = 0; history = history_of (take x.bench.rows rows'); traffic = (entry_of x (history_of [])).traffic }) (reply-is true z)
-        ∙ ap (λ (l : List Row). record { refusal = 0; history = history_of (take (length state.rows) l); traffic = traffic_of state }) (left_is true z)
-        ∙ ap (λ (l : List Row). record { refusal = 0; history = history_of l; traffic = traffic_of state }) (take-append_seam state.rows _)
-      where
-        of_number : ℕ → Entry
-        of_number k = record { refusal = k; history = history_of (take s.bench.rows rows'); traffic = (entry_of s (history_of [])).traffic }
-
-  module _ (z : eqb (file_refusal bytes) 0 ≡ false) where
-    no_rows : s.bench.rows ≡ 0
-    no_rows = ap (λ (x : Stepped). x.bench.rows) (reply-is false z)
-
-    is-refused : counted ≡ adds false
-    is-refused =
-        ap (λ (x : Stepped). entry_of x (history_of (take x.bench.rows rows'))) (reply-is false z)
-        ∙ ap (λ (k : ℕ). record { refusal = k; history = history_of []; traffic = no_traffic }) number_is
-
-  pub used-fit : s.bench.rows ≤ length rows'
-  used-fit = go (eqb (file_refusal bytes) 0) refl
-    where
-      go : (t : Bool) → eqb (file_refusal bytes) 0 ≡ t → s.bench.rows ≤ length rows'
-      go true z = fits-run z
-      go false z = omega (arith, no_rows z)
-
-  entry-is : counted ≡ added_by bytes
+  -- one that starts none
+  pub refused-counted : (e : Refusal) → number e ≡ file_refusal bytes → eqb (file_refusal bytes) 0 ≡ false → refused_entry e ≡ added_by bytes
   unfolding added_by
-  entry-is = go (eqb (file_refusal bytes) 0) refl
-    where
-      go : (t : Bool) → eqb (file_refusal bytes) 0 ≡ t → counted ≡ adds t
-      go true z = is-run z
-      go false z = is-refused z
-
-  -- as the count of the rows in use gives it
-  pub counted_is : (u : ℕ) (h : History) (r : Entry) → u ≡ s.bench.rows → h ≡ history_of (take u rows') → r ≡ entry_of s h → r ≡ added_by bytes
-  counted_is u h r eu eh er = er ∙ ap (entry_of s) (eh ∙ ap (λ (k : ℕ). history_of (take k rows')) eu) ∙ entry-is
+  refused-counted e f none = ap (λ (k : ℕ). record { refusal = k; history = history_of []; traffic = no_traffic }) f ∙ sym (ap adds none)
 
 -- ---- the number of a refusal by file is below 32
 

@@ -6,13 +6,12 @@ ghost use Rattle.figures.specs.Figures.{history_of};
 ghost use Rattle.figures.specs.Replies.{added_reply};
 ghost use Rattle.sheets.specs.Sheet.{added_by, added};
 
-use figures::entries::entry_of;
 use figures::rows::of_row;
 use figures::sums::Total;
 use figures::totals::{Overflow, enter};
 use figures::{Entry, History, Sheet};
 use replaying::run_history;
-use tables::{Row, empty_row};
+use tables::Row;
 use words::limits::ROW_PLACES;
 
 // What the rows of a history come to.
@@ -31,11 +30,14 @@ fn count_rows(rows: &[Row]) -> History
 fn count_file(bytes: &[u8]) -> Entry
     ensures { result ≡ added_by bytes.now }
 {
-    let mut rows = [empty_row(); ROW_PLACES];
-    let ran = run_history(&mut rows, bytes);
-    let used = usize::from(ran.bench.rows);
-    let history = count_rows(&rows[..used]);
-    entry_of(ran, history)
+    let mut rows = [Row::default(); ROW_PLACES];
+    match run_history(&mut rows, bytes) {
+        Ok(ran) => {
+            let used = usize::from(ran.bench.rows);
+            Entry::of_run(ran.bench, count_rows(&rows[..used]))
+        }
+        Err(refusal) => Entry::refused(refusal),
+    }
 }
 
 // A schedule is added to a sheet. Where a total would pass 64 bits it is refused by 28.

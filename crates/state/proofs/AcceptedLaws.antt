@@ -8,9 +8,10 @@ use Rattle.words.specs.declared.Body.TheVariants.{Query, Response, Update, Ack}
 use Rattle.words.specs.declared.Message.{Message}
 use Rattle.words.specs.declared.Pid.{Pid}
 use Rattle.words.specs.Ranges.{within}
-use Rattle.replica.specs.declared.Answer.{Answer}
+use Rattle.replica.specs.Answer.{Answer}
 use Rattle.replica.specs.declared.Replica.{Replica}
-use Rattle.replica.specs.Handlers.{unless_refused, refused, is_idle, read_refusal, read_rule, read_begun, write_refusal, write_rule, write_begun}
+use Rattle.replica.specs.Handlers.{unless_refused, is_idle, read_refusal, read_rule, read_begun, write_refusal, write_rule, write_begun}
+use Rattle.replica.specs.Answer.{refused}
 use Rattle.replica.specs.Handlers.{query_refusal, query_received, update_refusal, update_received}
 use Rattle.replica.specs.Handlers.{response_refusal, response_received, ack_refusal, ack_received}
 use Rattle.replica.specs.Handlers.{crash_refusal as down_for, crash_rule, crashed}

@@ -1,6 +1,6 @@
 -- The four counters of a state are the sums over its run, and what was sent is delivered, lost or in flight.
 use Prim.Native.Nat.{ℕ, ◌+◌, ◌<◌}
-use Rattle.std.specs.Prelude.{◌≡◌, Bool, true, false, cond, ◌&&◌, List, [], ◌∷◌, eqb, leb, length, Some}
+use Rattle.std.specs.Prelude.{◌≡◌, Bool, true, false, cond, ◌&&◌, List, [], ◌∷◌, eqb, leb, length, Some, Option, None}
 use Rattle.std.proofs.Math.Path.{refl}
 use Rattle.std.proofs.Common.{sym, ap, ◌∙◌, arith, length-append}
 use Rattle.std.proofs.Math.Seq.{take-length}
@@ -9,12 +9,8 @@ use Rattle.words.specs.declared.Body.TheVariants.{Query, Response, Update, Ack}
 use Rattle.words.specs.declared.Message.{Message}
 use Rattle.words.specs.declared.Pair.{Pair}
 use Rattle.words.specs.Quorum.{joined, counted}
-use Rattle.replica.specs.declared.Answer.{Answer}
+use Rattle.replica.specs.Answer.{Answer}
 use Rattle.replica.specs.declared.Gathered.{Gathered}
-use Rattle.replica.specs.declared.ResponseCounts.{ResponseCounts}
-use Rattle.replica.specs.declared.ResponseCounts.TheVariants.{Not, For}
-use Rattle.replica.specs.declared.AckCounts.{AckCounts}
-use Rattle.replica.specs.declared.AckCounts.TheVariants.{Not as NoAck, For as AckFor}
 use Rattle.replica.specs.declared.Phase.{Phase}
 use Rattle.replica.specs.declared.Phase.TheVariants.{Idle, Querying, Updating}
 use Rattle.replica.specs.declared.Replica.{Replica}
@@ -64,10 +60,10 @@ module _ (s : State) (r : Replica) (message : Message) where
   unfolding response_rule response_counted
   response-sends x pair = by-phase r.phase
     where
-      sent_if : ResponseCounts → ℕ
+      sent_if : Option (ℕ × Gathered) → ℕ
       sent_if counts = sent_by n (response_taken counts r n x message.from message.time pair).sends
 
-      by_number : (row : ℕ) (gathered : Gathered) (same : Bool) → sent_if (cond same (For row gathered) Not) ≡ cond (same && enough (Querying row gathered)) n 0
+      by_number : (row : ℕ) (gathered : Gathered) (same : Bool) → sent_if (cond same (Some (row, gathered)) None) ≡ cond (same && enough (Querying row gathered)) n 0
       by_number row gathered true = ap-cond (λ (a : Answer). sent_by n a.sends) (enough (Querying row gathered)) _ _
       by_number row gathered false = refl
 
@@ -81,9 +77,9 @@ module _ (s : State) (r : Replica) (message : Message) where
   unfolding ack_rule ack_counted
   ack-sends = by_count (ack_counts r.phase r.rid message.rid)
     where
-      by_count : (counts : AckCounts) → sent_by n (ack_taken counts r n message.from message.time).sends ≡ 0
-      by_count NoAck = refl
-      by_count (AckFor row sent) = either_way (λ (a : Answer). sent_by n a.sends ≡ 0) (enough (Updating row sent)) _ _ refl refl
+      by_count : (counts : Option (ℕ × Pair)) → sent_by n (ack_taken counts r n message.from message.time).sends ≡ 0
+      by_count None = refl
+      by_count (Some waiting) = either_way (λ (a : Answer). sent_by n a.sends ≡ 0) (enough (Updating waiting.0 waiting.1)) _ _ refl refl
 
 receipt-sends : (s : State) (r : Replica) (message : Message) (body : Body)
     → sent_by s.n (rule_by s r message body).sends ≡ sent_on_receipt s r message body

@@ -1,5 +1,5 @@
 -- Laws of a test of every element: of one element, and of a list that grows, loses an element or has one changed; the length without one; and what
--- stands at a place, whatever the default.
+-- stands at a place of a list of one value.
 use Rattle.std.specs.Prelude.{ℕ, zero, suc, ◌+◌, ◌<◌, ◌≡◌, refl, Bool, true, ◌&&◌, List, [], ◌∷◌, ◌++◌, length, get_or, set, replicate}
 use Rattle.std.proofs.Common.{not-suc-le-zero, le_of_suc-le-suc, arith}
 use Rattle.words.specs.RangeLaws.{and_left, and_right}
@@ -37,12 +37,6 @@ module _ {A : Type 0} where
   length_removed i [] l = absurd (not-suc-le-zero l)
   length_removed zero (x ∷ xs) l = omega arith
   length_removed (suc i) (x ∷ xs) l = let e = length_removed i xs (le_of_suc-le-suc l) in omega arith
-
-  -- within, what stands past the end makes no difference
-  pub get_or-default : (xs : List A) (i : ℕ) (d e : A) → i < length xs → get_or xs i d ≡ get_or xs i e
-  get_or-default [] i d e l = absurd (not-suc-le-zero l)
-  get_or-default (x ∷ xs) zero d e l = refl
-  get_or-default (x ∷ xs) (suc i) d e l = get_or-default xs i d e (le_of_suc-le-suc l)
 
   -- a list of one value has it at every place, and behind its end too where that is the default
   pub get_or-empty : (n i : ℕ) (d : A) → get_or (replicate n d) i d ≡ d

@@ -3,11 +3,11 @@ use Rattle.std.specs.Prelude.{ℕ, ◌+◌, ◌-◌, ◌≡◌, refl, Bool, true
 use Rattle.std.proofs.Common.{sym, subst, ne_eqb, eq-eqb}
 use Rattle.std.proofs.lemmas.Bool.{eqb-false}
 use Rattle.words.specs.Ranges.{within}
-use Rattle.replica.specs.declared.Answer.{Answer}
+use Rattle.replica.specs.Answer.{Answer}
 use Rattle.replica.specs.declared.Replica.{Replica}
 use Rattle.replica.specs.Handlers.{unless_refused, is_idle, read_begun, read_refusal, read_rule, write_begun, write_refusal, write_rule}
 use Rattle.replica.specs.Handlers.{crashed, crash_refusal as crash_guard, crash_rule}
-use Rattle.replica.proofs.HandlerLaws.{picks_first, picks_second}
+use Rattle.std.proofs.lemmas.Bool.{cond-true, cond-false}
 use Rattle.replica.specs.Numbers.{sent_by}
 use Rattle.tables.specs.Tables.{seek}
 use Rattle.state.specs.declared.Event.{Event}
@@ -59,8 +59,8 @@ module _ (s : State) (e : Event) where
   judged : (number : ℕ) (next : State) → (number ≡ 0 → Follows s e next) → Judged s e (outcome s number next)
   judged number next follows =
       record {
-        refused = λ n. sym (picks_second (eqb number 0) next s (ne_eqb number 0 n));
-        accepted = λ z. subst (Follows s e) (picks_first (eqb number 0) next s (eq-eqb number 0 z)) (follows z);
+        refused = λ n. cond-false (eqb number 0) next s (ne_eqb number 0 n);
+        accepted = λ z. subst (Follows s e) (sym (cond-true (eqb number 0) next s (eq-eqb number 0 z))) (follows z);
       }
 
   never : (number : ℕ) → eqb number 0 ≡ false → Judged s e (outcome s number s)

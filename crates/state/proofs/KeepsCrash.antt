@@ -1,7 +1,7 @@
 -- An accepted crash, and an accepted loss of a message, keep well-formedness: a crash changes one replica's sign of life, a loss takes a message off.
 use Rattle.std.specs.Prelude.{ℕ, ◌<◌, ◌≡◌, refl, length}
 use Rattle.std.proofs.Common.{sym, subst, arith}
-use Rattle.replica.specs.declared.Answer.{Answer}
+use Rattle.replica.specs.Answer.{Answer}
 use Rattle.replica.specs.Handlers.{crash_rule}
 use Rattle.tables.specs.Tables.{removed}
 use Rattle.state.specs.State.{State, replica_of}

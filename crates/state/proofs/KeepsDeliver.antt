@@ -1,6 +1,6 @@
 -- An accepted delivery keeps well-formedness: the message is taken off, and no phase ends, or the response that makes a majority ends the query phase
 -- of the pending row, or the ack that makes one completes it.
-use Rattle.std.specs.Prelude.{ℕ, ◌+◌, ◌-◌, ◌<◌, ◌≡◌, Bool, cond, ◌&&◌, ◌||◌, List, [], ◌∷◌, eqb, leb, length, get_or, set}
+use Rattle.std.specs.Prelude.{ℕ, ◌+◌, ◌-◌, ◌<◌, ◌≡◌, Bool, cond, ◌&&◌, ◌||◌, List, [], ◌∷◌, eqb, leb, length, get_or, set, Some, None}
 use Rattle.std.proofs.Math.Path.{refl}
 use Rattle.std.proofs.Common.{sym, ap, subst, ◌∙◌, arith, get_or-set_same, get_or-set_other, ne_eqb}
 use Rattle.std.proofs.Math.Bool.{true, false, and-false, or-true}
@@ -11,10 +11,8 @@ use Rattle.words.specs.declared.Pair.{Pair}
 use Rattle.words.specs.Quorum.{joined, counted}
 use Rattle.words.specs.Ranges.{within, pair_fits}
 use Rattle.words.specs.RangeLaws.{and_left, and_right, inside-fit}
-use Rattle.replica.specs.declared.Answer.{Answer}
+use Rattle.replica.specs.Answer.{Answer}
 use Rattle.replica.specs.declared.Gathered.{Gathered}
-use Rattle.replica.specs.declared.ResponseCounts.TheVariants.{Not, For}
-use Rattle.replica.specs.declared.AckCounts.TheVariants.{Not as NoAck, For as AckFor}
 use Rattle.replica.specs.declared.Ended.TheVariants.{Pending, Query as Queried, At}
 use Rattle.replica.specs.declared.Phase.{Phase}
 use Rattle.replica.specs.declared.Phase.TheVariants.{Idle, Querying, Updating}
@@ -22,7 +20,8 @@ use Rattle.replica.specs.declared.Sends.{Sends}
 use Rattle.replica.specs.declared.Sends.TheVariants.{Nothing, Reply, Broadcast}
 use Rattle.replica.specs.Clock.{after}
 use Rattle.replica.specs.Gathering.{gathered_with}
-use Rattle.replica.specs.Handlers.{accepted, broadcast_of, discarded, became as placed}
+use Rattle.replica.specs.Handlers.{broadcast_of, discarded, became as placed}
+use Rattle.replica.specs.Answer.{accepted}
 use Rattle.replica.specs.Handlers.{response_counts, response_counted, response_taken, response_rule, ack_counts, ack_counted, ack_taken, ack_rule}
 use Rattle.replica.specs.Numbers.{pointed}
 use Rattle.tables.specs.declared.Row.{Row}
@@ -219,7 +218,7 @@ module _ (s : State) (w : Well s) (room : s.accepted < 12000) (i : ℕ) (inside 
         go (Querying row gathered) o = case (eqb x.rid.0 (replica_of s p).rid.0)
           where
             case : (b : Bool)
-                → Takes row (response_taken (cond b (For row gathered) Not) (replica_of s p) s.n (row_of s row).register x.from x.time pair)
+                → Takes row (response_taken (cond b (Some (row, gathered)) None) (replica_of s p) s.n (row_of s row).register x.from x.time pair)
             case true =
                 response-counted row (gathered_with gathered pair)
                 (o.0, o.1, pair-newer s.accepted s.n gathered.best pair o.2 f, o.3)
@@ -288,7 +287,7 @@ module _ (s : State) (w : Well s) (room : s.accepted < 12000) (i : ℕ) (inside 
         go (Querying row gathered) o = discarded-well row
         go (Updating row sent) o = case (eqb x.rid.0 (replica_of s p).rid.0)
           where
-            case : (b : Bool) → Takes row (ack_taken (cond b (AckFor row sent) NoAck) (replica_of s p) s.n x.from x.time)
+            case : (b : Bool) → Takes row (ack_taken (cond b (Some (row, sent)) None) (replica_of s p) s.n x.from x.time)
             case true = ack-counted row sent o
             case false = discarded-well row
 

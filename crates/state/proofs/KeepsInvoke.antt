@@ -12,12 +12,13 @@ use Rattle.words.specs.declared.Body.TheVariants.{Query, Update}
 use Rattle.words.specs.declared.Pair.{Pair}
 use Rattle.words.specs.Stamps.{stamp_of}
 use Rattle.words.specs.Ranges.{pair_fits}
-use Rattle.replica.specs.declared.Answer.{Answer}
+use Rattle.replica.specs.Answer.{Answer}
 use Rattle.replica.specs.declared.Ended.TheVariants.{Pending}
 use Rattle.replica.specs.declared.Phase.{Phase}
 use Rattle.replica.specs.declared.Phase.TheVariants.{Idle, Querying, Updating}
 use Rattle.replica.specs.Gathering.{nothing_gathered}
-use Rattle.replica.specs.Handlers.{accepted, broadcast_of, is_idle, read_rule, write_rule, became as placed}
+use Rattle.replica.specs.Handlers.{broadcast_of, is_idle, read_rule, write_rule, became as placed}
+use Rattle.replica.specs.Answer.{accepted}
 use Rattle.tables.specs.declared.Row.{Row}
 use Rattle.tables.specs.Tables.{empty_row}
 use Rattle.state.specs.Needed.{responses_needed}

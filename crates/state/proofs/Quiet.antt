@@ -10,7 +10,7 @@ use Rattle.words.specs.Quorum.{joined, counted}
 use Rattle.words.specs.QuorumLaws.{Inside, inside-empty, joined-inside}
 use Rattle.words.specs.Ranges.{pair_fits}
 use Rattle.words.specs.Stamps.{newer}
-use Rattle.replica.specs.declared.Answer.{Answer}
+use Rattle.replica.specs.Answer.{Answer}
 use Rattle.replica.specs.declared.Ended.TheVariants.{Pending}
 use Rattle.replica.specs.declared.Phase.{Phase}
 use Rattle.replica.specs.Clock.{after}

@@ -2,7 +2,7 @@
 use Rattle.std.specs.Prelude.{ℕ, ◌+◌, ◌-◌, ◌≤◌, ◌≡◌, refl, List, [], ◌∷◌, ◌++◌, ℤ, length, get_or}
 use Rattle.std.proofs.Common.{sym, subst, arith, length-append, length-set}
 use Rattle.words.specs.declared.Message.{Message}
-use Rattle.replica.specs.declared.Answer.{Answer}
+use Rattle.replica.specs.Answer.{Answer}
 use Rattle.replica.specs.declared.Ended.{Ended}
 use Rattle.replica.specs.declared.Ended.TheVariants.{Pending, Query, At}
 use Rattle.replica.specs.Handlers.{read_rule, write_rule, crash_rule}

@@ -3,7 +3,7 @@ use Rattle.std.specs.Prelude.{ℕ, ◌+◌, [], ◌∷◌, ◌++◌, ℤ, length
 use Rattle.words.specs.declared.Body.{Body}
 use Rattle.words.specs.declared.Body.TheVariants.{Query, Response, Update, Ack}
 use Rattle.words.specs.declared.Message.{Message}
-use Rattle.replica.specs.declared.Answer.{Answer}
+use Rattle.replica.specs.Answer.{Answer}
 use Rattle.replica.specs.declared.Replica.{Replica}
 use Rattle.replica.specs.Handlers.{read_rule, write_rule}
 use Rattle.replica.specs.Handlers.{query_rule, update_rule}

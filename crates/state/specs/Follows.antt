@@ -1,7 +1,7 @@
 -- What an accepted event does: its rule, with no guard left. Laws of accepted events are proved over the cases of `Follows`.
 use Rattle.std.specs.Prelude.{ℕ, ◌+◌, ◌≡◌, [], ◌∷◌, ◌++◌, ℤ, length, Some}
 use Rattle.words.specs.declared.Pid.{Pid}
-use Rattle.replica.specs.declared.Answer.{Answer}
+use Rattle.replica.specs.Answer.{Answer}
 use Rattle.replica.specs.Handlers.{read_rule, write_rule, crash_rule}
 use Rattle.replica.specs.Numbers.{pointed}
 use Rattle.tables.specs.Tables.{seek, removed}

@@ -2,6 +2,7 @@
 pub mod State
 pub mod Needed
 pub mod Step
+pub mod Stepped
 pub mod Within
 pub mod WellFormed
 pub mod Tabled

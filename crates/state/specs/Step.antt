@@ -10,7 +10,7 @@ use Rattle.words.specs.declared.Time.{Time}
 use Rattle.words.specs.Limits.{most_events, most_flight, most_rows}
 use Rattle.words.specs.Ranges.{within}
 use Rattle.words.specs.Stamps.{stamp_of, start_stamp}
-use Rattle.replica.specs.declared.Answer.{Answer}
+use Rattle.replica.specs.Answer.{Answer}
 use Rattle.replica.specs.declared.Ended.{Ended}
 use Rattle.replica.specs.declared.Ended.TheVariants.{Pending, Query as Queried, At}
 use Rattle.replica.specs.declared.Letter.{Letter}

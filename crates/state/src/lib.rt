@@ -6,7 +6,7 @@ use replica::Replica;
 use words::Pid;
 
 // The counts, and the replicas. The messages in flight and the rows of the history lie in the two lent tables.
-#[derive(Clone, Copy)]
+#[derive(Clone, Copy, Debug, Default, PartialEq, Eq)]
 pub struct Bench {
     pub n: u8,
     pub m: u8,
@@ -19,18 +19,11 @@ pub struct Bench {
     pub replicas: [Replica; 7],
 }
 
-#[derive(Clone, Copy)]
+#[derive(Clone, Copy, Debug, PartialEq, Eq)]
 pub enum Event {
     Read(Pid, u8),
     Write(Pid, u8, i64),
     Deliver(u32),
     Crash(Pid),
     Lose(u32),
-}
-
-// The reply to an event: its number of refusal, 0 if it was accepted, and the bench.
-#[derive(Clone, Copy)]
-pub struct Stepped {
-    pub refusal: u8,
-    pub bench: Bench,
 }

@@ -12,7 +12,7 @@ use Rattle.tables.specs.declared.Kind.TheVariants.{Read, Write}
 use Rattle.tables.specs.declared.Row.{Row}
 use Rattle.state.specs.State.{fresh_replica, State, replica_of, view}
 use Rattle.state.specs.declared.Bench.{Bench}
-use Rattle.state.proofs.EveryLaws.{get_or-default}
+use Rattle.std.proofs.lemmas.List.{get_or_default}
 use Rattle.text.specs.Lines.{pair_text, is_blank, blank_text, row_head, row_rest, reg_text, reg_texts}
 use Rattle.text.specs.Lines.{proc_texts, store_texts, run_text, proc_text, count_text, tail_text}
 use Rattle.text.specs.Short.{ShortPairs, ShortStores}
@@ -129,14 +129,14 @@ one_reg pairs p i =
 pub one-proc : (replicas : List Replica) (i : ℕ) (d : Replica) → i < length replicas
     → proc_texts replicas 1 i ++ proc_line (i + 1) (get_or replicas i d) ≡ proc_texts replicas 1 (i + 1)
 one-proc replicas i d within =
-    ap (λ (r : Replica). proc_texts replicas 1 i ++ proc_line (i + 1) r) (get_or-default replicas i d fresh_replica within)
+    ap (λ (r : Replica). proc_texts replicas 1 i ++ proc_line (i + 1) r) (get_or_default replicas i d fresh_replica within)
     ∙ ap (λ (y : ℕ). proc_texts replicas 1 i ++ proc_line (i + 1) (get_or replicas y fresh_replica)) (sym (before-one i))
     ∙ lines_more (λ p. proc_line p (get_or replicas (p - 1) fresh_replica)) (proc_texts replicas) (λ x. refl) (λ x k. refl) i
 
 pub one_store : (replicas : List Replica) (m i : ℕ) (d : Replica) → i < length replicas
     → store_texts replicas m 1 i ++ reg_lines (get_or replicas i d) (i + 1) 1 m ≡ store_texts replicas m 1 (i + 1)
 one_store replicas m i d within =
-    ap (λ (r : Replica). store_texts replicas m 1 i ++ reg_lines r (i + 1) 1 m) (get_or-default replicas i d fresh_replica within)
+    ap (λ (r : Replica). store_texts replicas m 1 i ++ reg_lines r (i + 1) 1 m) (get_or_default replicas i d fresh_replica within)
     ∙ ap (λ (y : ℕ). store_texts replicas m 1 i ++ reg_lines (get_or replicas y fresh_replica) (i + 1) 1 m) (sym (before-one i))
     ∙ lines_more (λ p. reg_lines (get_or replicas (p - 1) fresh_replica) p 1 m) (store_texts replicas m) (λ x. refl) (λ x k. refl) i
 
@@ -144,7 +144,7 @@ one_store replicas m i d within =
 
 -- what stands at a place of them, whatever the default
 taken-at : {A : Type 0} (n : ℕ) (xs : List A) (i : ℕ) (d e : A) → i < length (take n xs) → get_or (take n xs) i d ≡ get_or xs i e
-taken-at n xs i d e within = get_or-take n xs i d (omega (arith, length-take n xs)) ∙ get_or-default xs i d e (omega (arith, length-take n xs))
+taken-at n xs i d e within = get_or-take n xs i d (omega (arith, length-take n xs)) ∙ get_or_default xs i d e (omega (arith, length-take n xs))
 
 pub reg_taken : (m : ℕ) (pairs : List Pair) (p i : ℕ) → i < m → reg_texts pairs p 1 i ++ reg_line p (i + 1) (get_or (take m pairs) i start_pair) ≡ reg_texts pairs p 1 (i + 1)
 reg_taken m pairs p i below = ap (λ (pair : Pair). reg_texts pairs p 1 i ++ reg_line p (i + 1) pair) (get_or-take m pairs i start_pair below) ∙ one_reg pairs p i

@@ -27,6 +27,7 @@ const MOST: usize = ROW_PLACES;
 // Processes and registers are any byte.
 pub const BYTES: usize = 256;
 
+// By index, here and in `word_at`: std has no array of a shared slice's first bytes, and `try_into().unwrap()` of a range is no plainer.
 fn half_at(bytes: &[u8], at: usize) -> usize
     requires { at + 2 ≤ length bytes.now }
     ensures { result ≡ half_at bytes.now at }
@@ -78,6 +79,7 @@ fn cut(bytes: &[u8]) -> Option<(&[[u8; ROW_SIZE]], &[[u8; NUMBER_SIZE]])>
 fn is_laid(rows: &[[u8; ROW_SIZE]]) -> bool
     ensures { result ≡ laid (zeros 256) (rows_of rows.now) }
 {
+    // Marks of 0 and 1, since `laid` of specs/Verdict.antt, which may not change, speaks of such a table.
     let mut ended = [0u8; BYTES];
     for bytes in rows {
         let Ok(row) = Row::try_from(bytes) else {

@@ -15,6 +15,7 @@ use words::limits::ROW_PLACES;
 // A mark for each row number; place 0 is not used.
 pub const MARKS: usize = ROW_PLACES + 1;
 
+// Marks are numbers, since `fresh`, `marked` and `missing` of specs/Verdict.antt, which may not change, speak of tables of 0 and 1.
 const UNSEEN: u8 = 0;
 
 const SEEN: u8 = 1;

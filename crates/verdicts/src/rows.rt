@@ -42,6 +42,7 @@ impl TryFrom<&[u8; ROW_SIZE]> for Row {
     ghost try_from_gives = { λ bytes r. Decodes bytes.now r };
 
     fn try_from(bytes: &[u8; ROW_SIZE]) -> Result<Self, Fault> {
+        // Eight names for the value: `value @ ..` was tried, and the check does not cover it.
         let [process, kind, register, a, b, c, d, e, f, g, h, complete] = *bytes;
         Ok(Row {
             process,

@@ -1,3 +1,4 @@
 pub mod StampLaws
 pub mod RankLaws
 pub mod RefusalLaws
+pub mod DerivedLaws

@@ -1,10 +1,10 @@
 -- Each refusal has a number of its own, and none has 0: a contract that names the number names the refusal.
-use Rattle.std.specs.Prelude.{ℕ, ◌-◌, ◌≡◌, refl, List, [], ◌∷◌, get_or}
+use Rattle.std.specs.Prelude.{ℕ, ◌-◌, ◌≡◌, refl, List, [], ◌∷◌, get_or, Result, Ok, Err}
 use Rattle.std.proofs.Common.{sym, ap, ◌∙◌}
 use Rattle.std.proofs.Math.Nat.{suc-ne-zero}
 use Rattle.words.specs.declared.refusal.Refusal.{Refusal}
 use Rattle.words.specs.declared.refusal.Refusal.TheVariants.{WrongSize, WrongLength, WrongVersion, NoProcesses, NoRegisters, Unknown, Cut, NoProcess, NoRegister, Crashed, Pending, NoMessage, RecipientCrashed, BothUp, NoRoom, NoRow, Full, NotFormed, ShortOutput}
-use Rattle.words.specs.Refusals.{number}
+use Rattle.words.specs.Refusals.{number, refusal_number}
 
 -- in the order of their numbers
 in_order : List Refusal
@@ -61,3 +61,10 @@ number-some NoRow e = suc-ne-zero _ e
 number-some Full e = suc-ne-zero _ e
 number-some NotFormed e = suc-ne-zero _ e
 number-some ShortOutput e = suc-ne-zero _ e
+
+-- nor do two results of a check have one
+pub check-once : (x y : Result (Unit {0}) Refusal) → refusal_number x ≡ refusal_number y → x ≡ y
+check-once (Ok a) (Ok b) same = refl
+check-once (Ok a) (Err e) same = absurd (number-some e (sym same))
+check-once (Err d) (Ok a) same = absurd (number-some d same)
+check-once (Err d) (Err e) same = ap Err (number-once d e same)

@@ -3,7 +3,7 @@
 #![tactic(auto)]
 
 ghost use Rattle.std.specs.Prelude.{◌≡◌};
-ghost use Rattle.words.specs.Messages.{empty_message};
+ghost use Rattle.words.specs.Messages.{empty_message, sender_of};
 
 pub mod limits;
 pub mod quorum;
@@ -49,6 +49,14 @@ pub enum Body {
     Ack,
 }
 
+// What a receiver reads of an envelope: who sent it and when, and the number of the request.
+#[derive(Clone, Copy, Debug, Default, PartialEq, Eq)]
+pub struct Sender {
+    pub from: Pid,
+    pub time: Time,
+    pub rid: Rid,
+}
+
 // The envelope, and the body inside.
 #[repr(C)]
 #[derive(Clone, Copy, Debug, PartialEq, Eq)]
@@ -73,6 +81,18 @@ impl Default for Message {
             time: Time(0),
             rid: Rid(0),
             body: Body::Query(0),
+        }
+    }
+}
+
+impl Message {
+    pub fn sender(self) -> Sender
+        ensures { result ≡ sender_of self }
+    {
+        Sender {
+            from: self.from,
+            time: self.time,
+            rid: self.rid,
         }
     }
 }

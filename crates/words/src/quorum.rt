@@ -1,4 +1,5 @@
 // The replier set is one byte: process i is bit i, so bit 0 is never set. A phase ends with a majority of the processes.
+// A plain byte and no type of its own: that is document 01's form of the set, in `Replica` and in a row's `Replied`.
 ghost use Rattle.std.specs.Prelude.{◌≡◌, leb};
 ghost use Rattle.words.specs.Quorum.{member, joined, counted, majority_of};
 

@@ -4,9 +4,9 @@ ghost use Rattle.words.specs.Ranges.{within, stamp_fits, pair_fits, sender_fits,
 ghost use Rattle.words.specs.Limits.{most_rows};
 
 use crate::limits::{MOST_RID, MOST_TIME, PROCESSES, ROWS};
-use crate::{Pair, Pid, Rid, Stamp, Time};
+use crate::{Pair, Sender, Stamp};
 
-// A number from 1 to `most`.
+// A number from 1 to `most`. A name over `contains`, as `row_fits` is: the contracts above cite `within`, and not a range.
 pub fn is_within(x: u8, most: u8) -> bool
     ensures { result ≡ within x most }
 {
@@ -33,11 +33,11 @@ pub fn pair_fits(p: Pair, limit: u32, n: u8) -> bool
     stamp_fits(p.stamp, limit, n) & ((p.stamp.time.0 != 0) | (p.value == 0))
 }
 
-// The envelope of a message that was received, from one of `n` processes.
-pub fn sender_fits(n: u8, from: Pid, time: Time, rid: Rid) -> bool
-    ensures { result ≡ sender_fits n from time rid }
+// The sender of a message that was received, one of `n` processes.
+pub fn sender_fits(n: u8, sender: Sender) -> bool
+    ensures { result ≡ sender_fits n sender.from sender.time sender.rid }
 {
-    is_within(from.0, n) & (time.0 <= MOST_TIME) & (rid.0 <= MOST_RID)
+    is_within(sender.from.0, n) & (sender.time.0 <= MOST_TIME) & (sender.rid.0 <= MOST_RID)
 }
 
 // A replier set inside 1 to `n`: bit 0 is no process, and no bit above `n` is set.

@@ -17,6 +17,7 @@ pub fn rank_of(s: Stamp) -> u64
 }
 
 // The derived order is document 01's.
+#[tactic(auto, using(crate::proofs::DerivedLaws::derived_below))]
 pub fn is_below(a: Stamp, b: Stamp) -> bool
     ensures { result ≡ below a b }
 {

@@ -1,55 +1,64 @@
 -- The run of a schedule that starts a bench leaves the table of which the file is made; of any other the run says the number that refuses it.
-use Rattle.std.proofs.Common.{◌∙◌, sym, length, replicate, arith, length-take, length-take-le}
+use Rattle.std.proofs.Common.{sym, length, refl, replicate, arith, length-take, length-take-le}
 use Rattle.std.proofs.lemmas.List.{length-replicate}
-use Rattle.replaying.proofs.ReplayedLaws.{begun, order-asks}
+use Rattle.schedule.specs.Turns.{stepped_by}
+use Rattle.replaying.proofs.ReplayedLaws.{begun, unbegun, number-given, order-asks, rows_few}
 use Rattle.recording.proofs.RecordingLaws.{used-rows_fit, file-written, file-refused}
 use Rattle.recording.proofs.history_into.Goals as goal
 
 pub fill_order-count-requires : goal.fill_order-count-requires
 fill_order-count-requires c =
-    let ran = c.run_history-ran in
-    let empty = c.empty_row-rows.result in
-    let s = begun c.args.bytes.now (replicate 1024 empty) (length-replicate 1024 empty) ran.result ran.ensures.0 ran.new.rows ran.ensures.1 (sym c.is_begun.ensures ∙ c.if-is_begun.true) in
-    order-asks c.args.bytes.now ran.result ran.new.rows s c.rows_of-used.result c.rows_of-used.ensures (length c.args.listing.now) c.requires.1
+    let bytes = c.args.bytes.now in
+    let rows = c.run_history.new.rows in
+    let ran = stepped_by c.in-Ok.ran in
+    let g = c.in-Ok.ensures in
+    let s = begun bytes (replicate 1024 c.default-rows.result) (length-replicate 1024 c.default-rows.result) ran g.reply.0 rows g.reply.1 g.opens in
+    order-asks bytes ran rows s (length c.args.listing.now) c.requires.1
 
 pub slice_bounds-rows-end : goal.slice_bounds-rows-end
 slice_bounds-rows-end c =
-    let ran = c.run_history-ran in
-    let empty = c.empty_row-rows.result in
-    let s = begun c.args.bytes.now (replicate 1024 empty) (length-replicate 1024 empty) ran.result ran.ensures.0 ran.new.rows ran.ensures.1 (sym c.is_begun.ensures ∙ c.if-is_begun.true) in
-    (used-rows_fit c.args.bytes.now ran.result ran.new.rows s c.rows_of-used.result c.rows_of-used.ensures).0
+    let bytes = c.args.bytes.now in
+    let rows = c.run_history.new.rows in
+    let ran = stepped_by c.in-Ok.ran in
+    let g = c.in-Ok.ensures in
+    let s = begun bytes (replicate 1024 c.default-rows.result) (length-replicate 1024 c.default-rows.result) ran g.reply.0 rows g.reply.1 g.opens in
+    used-rows_fit bytes ran rows s
 
 pub slice_bounds-put_history-end : goal.slice_bounds-put_history-end
 slice_bounds-put_history-end c =
-    let ran = c.run_history-ran in
-    let empty = c.empty_row-rows.result in
-    let s = begun c.args.bytes.now (replicate 1024 empty) (length-replicate 1024 empty) ran.result ran.ensures.0 ran.new.rows ran.ensures.1 (sym c.is_begun.ensures ∙ c.if-is_begun.true) in
-    let used = c.rows_of-used.result in
-    sym (length-take-le used ran.new.rows (used-rows_fit c.args.bytes.now ran.result ran.new.rows s used c.rows_of-used.ensures).0)
+    let bytes = c.args.bytes.now in
+    let rows = c.run_history.new.rows in
+    let ran = stepped_by c.in-Ok.ran in
+    let g = c.in-Ok.ensures in
+    let s = begun bytes (replicate 1024 c.default-rows.result) (length-replicate 1024 c.default-rows.result) ran g.reply.0 rows g.reply.1 g.opens in
+    sym (length-take-le ran.bench.rows rows (used-rows_fit bytes ran rows s))
 
 pub put_history-requires : goal.put_history-requires
 put_history-requires c =
-    let ran = c.run_history-ran in
-    let empty = c.empty_row-rows.result in
-    let s = begun c.args.bytes.now (replicate 1024 empty) (length-replicate 1024 empty) ran.result ran.ensures.0 ran.new.rows ran.ensures.1 (sym c.is_begun.ensures ∙ c.if-is_begun.true) in
-    let used = c.rows_of-used.result in
+    let bytes = c.args.bytes.now in
+    let rows = c.run_history.new.rows in
+    let ran = stepped_by c.in-Ok.ran in
+    let g = c.in-Ok.ensures in
+    let s = begun bytes (replicate 1024 c.default-rows.result) (length-replicate 1024 c.default-rows.result) ran g.reply.0 rows g.reply.1 g.opens in
     let filled = c.fill_order-count in
-    let few = (used-rows_fit c.args.bytes.now ran.result ran.new.rows s used c.rows_of-used.ensures).1 in
-    (c.requires.0, (omega (arith, length-take used ran.new.rows, few), omega (arith, length-take filled.result filled.new.out)))
+    (c.requires.0, (omega (arith, length-take ran.bench.rows rows, rows_few bytes ran rows s), omega (arith, length-take filled.result filled.new.out)))
 
-pub returns-then-is_begun : goal.returns-then-is_begun
-returns-then-is_begun c =
-    let ran = c.run_history-ran in
-    let empty = c.empty_row-rows.result in
-    let s = begun c.args.bytes.now (replicate 1024 empty) (length-replicate 1024 empty) ran.result ran.ensures.0 ran.new.rows ran.ensures.1 (sym c.is_begun.ensures ∙ c.if-is_begun.true) in
+pub returns-in-Ok : goal.returns-in-Ok
+returns-in-Ok c =
+    let bytes = c.args.bytes.now in
+    let rows = c.run_history.new.rows in
+    let ran = stepped_by c.in-Ok.ran in
+    let g = c.in-Ok.ensures in
+    let s = begun bytes (replicate 1024 c.default-rows.result) (length-replicate 1024 c.default-rows.result) ran g.reply.0 rows g.reply.1 g.opens in
     let filled = c.fill_order-count in
-    file-written c.args.bytes.now ran.result ran.new.rows s c.rows_of-used.result filled.result filled.new.out c.rows_of-used.ensures filled.ensures.0 filled.ensures.1
-    c.args.out.now c.put_history.new.out c.put_history.result c.put_history.ensures
+    file-written bytes ran rows s ran.bench.rows refl filled.result filled.new.out filled.ensures.0 filled.ensures.1 c.args.out.now c.put_history.new.out c.put_history.result c.put_history.ensures
 
-pub returns : goal.returns
-returns c =
-    let ran = c.run_history-ran in
-    let empty = c.empty_row-rows.result in
-    let places = length (replicate 1024 empty) in
-    file-refused c.args.bytes.now places (length-replicate 1024 empty) ran.result ran.ensures.0 (sym c.is_begun.ensures ∙ c.if-is_begun.false) c.args.out.now c.put_refusal.new.buf c.put_refusal.result
-    (rw (← c.refusal_of-refusal.ensures) c.put_refusal.ensures)
+pub returns-in-Err : goal.returns-in-Err
+returns-in-Err c =
+    let bytes = c.args.bytes.now in
+    let made = replicate 1024 c.default-rows.result in
+    let long = length-replicate 1024 c.default-rows.result in
+    let rows = c.run_history.new.rows in
+    let g = c.in-Err.ensures in
+    let none = unbegun bytes made long _ g.reply.0 rows g.reply.1 g.opens in
+    file-refused bytes _ (number-given bytes made long _ g.reply.0 rows g.reply.1 none) none c.args.out.now c.refusal_text.new.out c.refusal_text.result c.refusal_text.ensures

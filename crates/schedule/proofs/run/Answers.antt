@@ -1,34 +1,36 @@
 -- A file that opens is played from a fresh bench on emptied tables; one that does not leaves all as it was.
-use Rattle.std.proofs.Common.{◌≡◌, ◌∙◌, sym, length}
-use Rattle.schedule.specs.Opening.{opened}
-use Rattle.schedule.proofs.FileLaws.{Played, start-tabled, played, unplayed}
+use Rattle.std.proofs.Common.{sym}
+use Rattle.std.proofs.lemmas.Result.{err_from_is_err_and}
+use Rattle.schedule.proofs.FileLaws.{start-tabled, told, untold, played, unplayed}
 use Rattle.schedule.proofs.run.Goals as goal
+
+pub returns-in_err-bench-clause-reply : goal.returns-in_err-bench-clause-reply
+returns-in_err-bench-clause-reply c =
+    let a = c.args in
+    let r = err_from_is_err_and c.from_residual.result c.from_residual.ensures.1 in
+    let p = unplayed a.messages.now a.rows.now a.bytes.now c.in_err-bench.field-0.0 c.in_err-bench.ensures in
+    rw (r.1, r.2) (p.reply, (p.messages-left, p.rows_left))
+
+pub returns-in_err-bench-clause-opens : goal.returns-in_err-bench-clause-opens
+returns-in_err-bench-clause-opens c =
+    let a = c.args in
+    let r = err_from_is_err_and c.from_residual.result c.from_residual.ensures.1 in
+    rw r.1 (sym (untold a.messages.now a.rows.now a.bytes.now c.in_err-bench.field-0.0 c.in_err-bench.ensures))
 
 pub run_events-requires : goal.run_events-requires
 run_events-requires c =
-    let ms = c.args.messages.now in
-    let rs = c.args.rows.now in
-    let bytes = c.args.bytes.now in
-    let e : c.opening-opened.result ≡ opened (length ms) (length rs) bytes = rw (← c.message_count-places.ensures, ← c.row_count-history.ensures) c.opening-opened.ensures in
-    rw (c.clear_messages.ensures, c.clear_rows.ensures)
-    (start-tabled ms rs bytes c.opening-opened.result e (sym c.is_open.ensures ∙ c.if-is_open.true) c.bench_of-bench.result c.bench_of-bench.ensures)
+    let a = c.args in
+    rw (c.clear_messages.ensures, c.clear_rows.ensures) (start-tabled a.messages.now a.rows.now a.bytes.now c.in_ok-bench.bench c.in_ok-bench.ensures)
 
-pub returns-then-is_open : goal.returns-then-is_open
-returns-then-is_open c =
-    let ms = c.args.messages.now in
-    let rs = c.args.rows.now in
-    let bytes = c.args.bytes.now in
-    let e : c.opening-opened.result ≡ opened (length ms) (length rs) bytes = rw (← c.message_count-places.ensures, ← c.row_count-history.ensures) c.opening-opened.ensures in
-    let p : Played bytes ms rs c.run_events.result c.run_events.new.messages c.run_events.new.rows =
-    played ms rs bytes c.opening-opened.result e (sym c.is_open.ensures ∙ c.if-is_open.true) c.bench_of-bench.result c.bench_of-bench.ensures
-    c.run_events.result c.run_events.new.messages c.run_events.new.rows (rw (c.clear_messages.ensures, c.clear_rows.ensures) at c.run_events.ensures) in
+pub returns-clause-reply : goal.returns-clause-reply
+returns-clause-reply c =
+    let a = c.args in
+    let p =
+        played a.messages.now a.rows.now a.bytes.now c.in_ok-bench.bench c.in_ok-bench.ensures _ c.run_events.new.messages c.run_events.new.rows
+        (rw (c.clear_messages.ensures, c.clear_rows.ensures) at c.run_events.ensures) in
     (p.reply, (p.messages-left, p.rows_left))
 
-pub returns : goal.returns
-returns c =
-    let ms = c.args.messages.now in
-    let rs = c.args.rows.now in
-    let bytes = c.args.bytes.now in
-    let e : c.opening-opened.result ≡ opened (length ms) (length rs) bytes = rw (← c.message_count-places.ensures, ← c.row_count-history.ensures) c.opening-opened.ensures in
-    let p : Played bytes ms rs c.opening-opened.result ms rs = unplayed ms rs bytes c.opening-opened.result e (sym c.is_open.ensures ∙ c.if-is_open.false) in
-    (p.reply, (p.messages-left, p.rows_left))
+pub returns-clause-opens : goal.returns-clause-opens
+returns-clause-opens c =
+    let a = c.args in
+    sym (told a.messages.now a.rows.now a.bytes.now c.in_ok-bench.bench c.in_ok-bench.ensures)

@@ -1,11 +1,12 @@
 -- What a turn begins with: the bench is tabled, and what is still to be done is the whole run.
+use Rattle.std.proofs.Common.{◌-◌, length}
 use Rattle.state.specs.State.{view}
 use Rattle.schedule.specs.Run.{ran}
-use Rattle.schedule.proofs.TurnLaws.{measure, Going}
+use Rattle.schedule.proofs.TurnLaws.{Going}
 use Rattle.schedule.proofs.run_events.Given as goal
 
-abbrev pub invariant-loop-messages : goal.invariant-loop-messages
-invariant-loop-messages l = Going l.bytes l.turn l.messages l.rows (ran l.bytes l.at (view l.fn.bench l.fn.messages l.fn.rows))
+abbrev pub invariant-loop-next : goal.invariant-loop-next
+invariant-loop-next l = Going l.bytes l.bench l.at l.messages l.rows (ran l.bytes l.fn.at (view l.fn.bench l.fn.messages l.fn.rows))
 
-abbrev pub decreases-loop-messages : goal.decreases-loop-messages
-decreases-loop-messages l = measure l.bytes l.turn
+abbrev pub decreases-loop-next : goal.decreases-loop-next
+decreases-loop-next l = length l.bytes - l.at

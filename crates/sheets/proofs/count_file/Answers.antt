@@ -1,28 +1,44 @@
--- The table of rows has 1,024 places.
-use Rattle.std.proofs.Common.{◌≤◌, length, ℕ, replicate, sym, subst}
+-- The table of rows has 1,024 places, and a run uses no more. What is counted of it, or the number that refuses the file, is what the schedule adds.
+use Rattle.std.proofs.Common.{◌≤◌, ◌∙◌, ap, length, ℕ, replicate, sym, subst, take}
 use Rattle.std.proofs.lemmas.List.{length-replicate, length-take-le}
-use Rattle.sheets.proofs.EntryLaws.{used-fit, counted_is}
+use Rattle.schedule.specs.Turns.{stepped_by}
+use Rattle.figures.specs.Figures.{history_of}
+use Rattle.replaying.proofs.ReplayedLaws.{begun, unbegun, number-given}
+use Rattle.sheets.proofs.EntryLaws.{used-fit, run-counted, refused-counted}
 use Rattle.sheets.proofs.count_file.Goals as goal
 
 pub slice_bounds-rows-end : goal.slice_bounds-rows-end
 slice_bounds-rows-end c =
-    let made = replicate 1024 c.empty_row-rows.result in
-    let ran = c.run_history-ran in
-    subst (λ (k : ℕ). k ≤ length ran.new.rows) (sym c.from-used.ensures)
-    (used-fit c.args.bytes.now made (length-replicate 1024 c.empty_row-rows.result) ran.result ran.ensures.0 ran.new.rows ran.ensures.1)
+    let bytes = c.args.bytes.now in
+    let rows = c.run_history.new.rows in
+    let ran = stepped_by c.in-Ok.ran in
+    let g = c.in-Ok.ensures in
+    let s = begun bytes (replicate 1024 c.default-rows.result) (length-replicate 1024 c.default-rows.result) ran g.reply.0 rows g.reply.1 g.opens in
+    subst (λ (k : ℕ). k ≤ length rows) (sym c.from-used.ensures) (used-fit bytes ran rows s)
 
 pub slice_bounds-count_rows-end : goal.slice_bounds-count_rows-end
 slice_bounds-count_rows-end c =
-    let made = replicate 1024 c.empty_row-rows.result in
-    let ran = c.run_history-ran in
-    sym
-    (length-take-le c.from-used.result ran.new.rows
-    (subst (λ (k : ℕ). k ≤ length ran.new.rows) (sym c.from-used.ensures)
-    (used-fit c.args.bytes.now made (length-replicate 1024 c.empty_row-rows.result) ran.result ran.ensures.0 ran.new.rows ran.ensures.1)))
+    let bytes = c.args.bytes.now in
+    let rows = c.run_history.new.rows in
+    let ran = stepped_by c.in-Ok.ran in
+    let g = c.in-Ok.ensures in
+    let s = begun bytes (replicate 1024 c.default-rows.result) (length-replicate 1024 c.default-rows.result) ran g.reply.0 rows g.reply.1 g.opens in
+    sym (length-take-le c.from-used.result rows (subst (λ (k : ℕ). k ≤ length rows) (sym c.from-used.ensures) (used-fit bytes ran rows s)))
 
-pub returns : goal.returns
-returns c =
-    let made = replicate 1024 c.empty_row-rows.result in
-    let ran = c.run_history-ran in
-    counted_is c.args.bytes.now made (length-replicate 1024 c.empty_row-rows.result) ran.result ran.ensures.0 ran.new.rows ran.ensures.1
-    c.from-used.result c.count_rows-history.result c.entry_of.result c.from-used.ensures c.count_rows-history.ensures c.entry_of.ensures
+pub returns-in-Ok : goal.returns-in-Ok
+returns-in-Ok c =
+    let bytes = c.args.bytes.now in
+    let rows = c.run_history.new.rows in
+    let ran = stepped_by c.in-Ok.ran in
+    let g = c.in-Ok.ensures in
+    let s = begun bytes (replicate 1024 c.default-rows.result) (length-replicate 1024 c.default-rows.result) ran g.reply.0 rows g.reply.1 g.opens in
+    c.of_run.ensures ∙ run-counted bytes ran rows s c.count_rows.result (c.count_rows.ensures ∙ ap (λ (k : ℕ). history_of (take k rows)) c.from-used.ensures)
+
+pub returns-in-Err : goal.returns-in-Err
+returns-in-Err c =
+    let bytes = c.args.bytes.now in
+    let made = replicate 1024 c.default-rows.result in
+    let long = length-replicate 1024 c.default-rows.result in
+    let g = c.in-Err.ensures in
+    let none = unbegun bytes made long _ g.reply.0 c.run_history.new.rows g.reply.1 g.opens in
+    c.refused.ensures ∙ refused-counted bytes c.in-Err.refusal (number-given bytes made long _ g.reply.0 c.run_history.new.rows g.reply.1 none) none

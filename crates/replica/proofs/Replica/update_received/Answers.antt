@@ -1,34 +1,45 @@
-use Rattle.std.proofs.Common.{◌∙◌}
+use Rattle.std.proofs.Common.{refl, arith}
+use Rattle.std.proofs.lemmas.Result.{err_from_is_err_and}
+use Rattle.words.proofs.RefusalLaws.{number-some}
 use Rattle.words.specs.RangeLaws.{sender-time, within-least, within-most}
 use Rattle.replica.specs.RangeLaws.{fits-clock}
 use Rattle.replica.specs.Handlers.{update_received, update_rule}
 use Rattle.replica.proofs.HandlerLaws.{rule-by, refuse-by, update-inside}
 use Rattle.replica.proofs.Replica.update_received.Goals as goal
 
-pub returns-then-refusal-ne0 : goal.returns-then-refusal-ne0
+pub returns-in_err-check_update : goal.returns-in_err-check_update
 unfolding update_received
-returns-then-refusal-ne0 c = c.refuse.ensures ∙ refuse-by _ _ _ _ c.update_refusal-refusal.ensures c.if-refusal-ne0.true
+returns-in_err-check_update c =
+    let p = err_from_is_err_and c.from_residual.result c.from_residual.ensures.1 in
+    let e = c.in_err-check_update in
+    rw (p.1, p.2) (refuse-by _ _ _ _ e.ensures (number-some e.field-0.0))
 
-pub after_receiving-clock-requires : goal.after_receiving-clock-requires
-after_receiving-clock-requires c =
+pub after_receiving-self-requires : goal.after_receiving-self-requires
+after_receiving-self-requires c =
     let a = c.args in
-    let i = update-inside a.self a.from a.time a.rid a.register a.pair c.update_refusal-refusal.ensures c.if-refusal-ne0.false in
-    (fits-clock 7 a.self i.0, sender-time 7 a.from a.time a.rid i.1)
+    let i = update-inside a.self a.sender.from a.sender.time a.sender.rid a.register a.pair c.in_ok-check_update.ensures refl in
+    (fits-clock 7 a.self i.0, sender-time 7 a.sender.from a.sender.time a.sender.rid i.1)
 
-pub pair_of-requires : goal.pair_of-requires
-pair_of-requires c =
+pub stored-requires : goal.stored-requires
+stored-requires c =
     let a = c.args in
-    let i = update-inside a.self a.from a.time a.rid a.register a.pair c.update_refusal-refusal.ensures c.if-refusal-ne0.false in
+    let i = update-inside a.self a.sender.from a.sender.time a.sender.rid a.register a.pair c.in_ok-check_update.ensures refl in
     (within-least _ 16 i.2, within-most _ 16 i.2)
 
-pub with_pair-self-requires : goal.with_pair-self-requires
-with_pair-self-requires c =
+pub overflow_sub-register : goal.overflow_sub-register
+overflow_sub-register c =
     let a = c.args in
-    let i = update-inside a.self a.from a.time a.rid a.register a.pair c.update_refusal-refusal.ensures c.if-refusal-ne0.false in
-    (within-least _ 16 i.2, within-most _ 16 i.2)
+    let i = update-inside a.self a.sender.from a.sender.time a.sender.rid a.register a.pair c.in_ok-check_update.ensures refl in
+    within-least _ 16 i.2
+
+pub bounds-self-from : goal.bounds-self-from
+bounds-self-from c =
+    let a = c.args in
+    let i = update-inside a.self a.sender.from a.sender.time a.sender.rid a.register a.pair c.in_ok-check_update.ensures refl in
+    omega (arith, c.from.ensures, within-least a.register 16 i.2, within-most a.register 16 i.2)
 
 pub returns : goal.returns
 unfolding update_received update_rule
 returns c =
-    rw (c.accept.ensures, c.reply.ensures, c.with_pair-self.ensures, c.newer_of-newest.ensures, c.pair_of.ensures, c.after_receiving-clock.ensures)
-    (rule-by _ _ _ _ c.update_refusal-refusal.ensures c.if-refusal-ne0.false)
+    rw (c.sending.ensures, c.reply.ensures, c.newer_of-newest.ensures, c.stored.ensures, c.after_receiving-self.ensures, c.from.ensures)
+    (rule-by _ _ _ _ c.in_ok-check_update.ensures refl)

@@ -1,0 +1,24 @@
+-- That 12,000 events are accepted already (17) is checked before all else.
+use Rattle.std.specs.Prelude.{ℕ, ◌≡◌, refl, true, Option, Some, None, Err}
+use Rattle.tables.specs.Tables.{seek}
+use Rattle.state.specs.declared.Event.{Event}
+use Rattle.state.specs.declared.Event.TheVariants.{Read, Write, Deliver, Crash, Lose}
+use Rattle.state.specs.State.{State}
+use Rattle.state.specs.Step.{full}
+use Rattle.decide.specs.Plan.{plan_of, invoke_plan, deliver_plan, crash_plan, lose_plan}
+
+pub full_first : (s : State) (event : Event) → full s ≡ true → Err 17 ≡ plan_of s event
+unfolding plan_of invoke_plan deliver_plan crash_plan lose_plan
+full_first s (Read p x) e = rw e refl
+full_first s (Write p x value) e = rw e refl
+full_first s (Deliver k) e = go (seek k 0 s.flight)
+  where
+    go : (found : Option ℕ) → Err 17 ≡ deliver_plan s found
+    go None = rw e refl
+    go (Some i) = rw e refl
+full_first s (Crash p) e = rw e refl
+full_first s (Lose k) e = go (seek k 0 s.flight)
+  where
+    go : (found : Option ℕ) → Err 17 ≡ lose_plan s found
+    go None = rw e refl
+    go (Some i) = rw e refl
