@@ -4,15 +4,14 @@
 ghost use Rattle.std.specs.Prelude.{◌≡◌, true, ◌≤◌, length};
 ghost use Rattle.state.specs.Tabled.{tabled};
 ghost use Rattle.advance.specs.Advanced.{Advanced};
-ghost use Rattle.advance.specs.Parts.{Bounded, Takes, Posts, taken_off, left_of, posted_at, carried_rows, carried_bench, put_back};
+ghost use Rattle.advance.specs.Parts.{Bounded, Takes, Posts, taken_off, left_of, posted_at, carried_rows, carried_bench};
 ghost use Rattle.state.specs.Stepped.{stepped};
 
 use decide::{Plan, View};
-use replica::Replica;
 use state::{Bench, Event};
 use tables::Row;
+use words::Message;
 use words::refusal::Refusal;
-use words::{Message, Pid};
 
 // The message at a place is taken off the messages in flight, and so many are left.
 fn take(messages: &mut [Message], flight: usize, taken: Option<usize>) -> usize
@@ -44,17 +43,8 @@ fn write(rows: &mut [Row], row: Option<(usize, Row)>)
     }
 }
 
-fn put_back(mut replicas: [Replica; 7], replica: Option<(Pid, Replica)>) -> [Replica; 7]
-    ensures { result ≡ put_back replica replicas }
-{
-    if let Some((p, r)) = replica {
-        tables::put(&mut replicas, p.0.saturating_sub(1) as usize, r);
-    }
-    replicas
-}
-
 // The bench after an accepted event, of whose messages in flight so many were left.
-fn moved(bench: Bench, event: Event, plan: Plan, left: usize) -> Bench
+fn moved(mut bench: Bench, event: Event, plan: Plan, left: usize) -> Bench
     requires { Bounded bench × (left ≡ left_of plan.taken bench.flight) }
     ensures { result ≡ carried_bench plan event bench }
 {
@@ -62,28 +52,19 @@ fn moved(bench: Bench, event: Event, plan: Plan, left: usize) -> Bench
         Some((_, count)) => count,
         None => 0,
     };
-    let next = Bench {
-        accepted: bench.accepted + 1,
-        sent: bench.sent + u32::from(count),
-        flight: left as u16 + u16::from(count),
-        replicas: put_back(bench.replicas, plan.replica),
-        ..bench
-    };
-    match event {
-        Event::Read(_, _) | Event::Write(_, _, _) => Bench {
-            rows: bench.rows + 1,
-            ..next
-        },
-        Event::Deliver(_) => Bench {
-            delivered: bench.delivered + 1,
-            ..next
-        },
-        Event::Crash(_) => next,
-        Event::Lose(_) => Bench {
-            lost: bench.lost + 1,
-            ..next
-        },
+    bench.accepted += 1;
+    bench.sent += u32::from(count);
+    bench.flight = left as u16 + u16::from(count);
+    if let Some((p, r)) = plan.replica {
+        tables::put(&mut bench.replicas, p.0.saturating_sub(1) as usize, r);
     }
+    match event {
+        Event::Read(_, _) | Event::Write(_, _, _) => bench.rows += 1,
+        Event::Deliver(_) => bench.delivered += 1,
+        Event::Crash(_) => (),
+        Event::Lose(_) => bench.lost += 1,
+    }
+    bench
 }
 
 // One event, carried out on the bench and the two tables that it is tabled in.

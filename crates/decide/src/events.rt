@@ -83,7 +83,9 @@ impl View<'_> {
         requires { full (seen self) ≡ false }
         ensures { numbered result ≡ deliver_plan (seen self.entry) (seek k 0 (seen self.entry).flight) }
     {
-        let at = tables::find(self.flight, self.flight.len(), k).ok_or(Refusal::NoMessage)?;
+        let Some(at) = tables::find(self.flight, self.flight.len(), k) else {
+            return Err(Refusal::NoMessage);
+        };
         let message = self.flight[at];
         let r = self.replica(message.to);
         if r.crashed {
@@ -116,7 +118,9 @@ impl View<'_> {
         requires { full (seen self) ≡ false }
         ensures { numbered result ≡ lose_plan (seen self.entry) (seek k 0 (seen self.entry).flight) }
     {
-        let at = tables::find(self.flight, self.flight.len(), k).ok_or(Refusal::NoMessage)?;
+        let Some(at) = tables::find(self.flight, self.flight.len(), k) else {
+            return Err(Refusal::NoMessage);
+        };
         let message = self.flight[at];
         if !self.replica(message.from).crashed & !self.replica(message.to).crashed {
             return Err(Refusal::BothUp);

@@ -1,5 +1,5 @@
 -- What the functions inside promise and ask: what one row comes to, and sums that stay within 64 bits.
-use Rattle.std.specs.Prelude.{ℕ, ◌+◌, ◌≤◌, ◌<◌, ◌^◌, Bool, cond, ◌&&◌, [], ◌∷◌, eqb, get_or}
+use Rattle.std.specs.Prelude.{ℕ, ◌+◌, ◌≤◌, ◌<◌, ◌^◌, Bool, cond, ◌&&◌, [], ◌∷◌, get_or}
 use Rattle.words.specs.declared.refusal.Refusal.{Refusal}
 use Rattle.words.specs.Refusals.{number}
 use Rattle.state.specs.declared.Bench.{Bench}

@@ -1,8 +1,6 @@
 // The text of a bench and its lent tables, written into a lent buffer.
 #![tactic(auto)]
 
-pub mod by_number;
-
 ghost use Rattle.std.specs.Prelude.{◌+◌, ◌*◌, ◌≤◌, length, take};
 ghost use Rattle.text.specs.Paged.{Room, Adds};
 ghost use Rattle.text.specs.Printed.{row_lines};

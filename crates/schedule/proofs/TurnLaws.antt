@@ -18,7 +18,7 @@ use Rattle.format.specs.Format.{event_at}
 use Rattle.advance.specs.Advanced.{Advanced}
 use Rattle.advance.specs.Good.{messages-are, rows_are, bench-is}
 use Rattle.advance.proofs.TabledLaws.{tabled-well, tabled-sized, holds-tabled, holds-view, stays-tabled}
-use Rattle.schedule.specs.Run.{Ran, stopped, followed, turned, ran}
+use Rattle.schedule.specs.Run.{Ran, stopped, turned, ran}
 use Rattle.schedule.specs.EventLaws.{Onward, onward}
 use Rattle.schedule.specs.Turns.{RanOn, Goes, Stops}
 use Rattle.schedule.proofs.RunLaws.{run-turn, run-well-formed, run-sized}

@@ -2,7 +2,7 @@
 use Rattle.std.specs.Prelude.{ℕ, zero, suc, ◌+◌, ◌-◌, ◌<◌, ◌≤◌, ◌≡◌, refl, true, false, List, [], ◌∷◌, ◌++◌, length, get_or, take}
 use Rattle.std.proofs.Common.{sym, subst, ap, ◌∙◌, append_assoc, append-nil, arith, add-one, length-take, length-take-le, eq-eqb, ne_eqb, eqb-true}
 use Rattle.std.proofs.lemmas.Bool.{eqb-false}
-use Rattle.std.proofs.lemmas.List.{get_or-take, take_more}
+use Rattle.std.proofs.lemmas.List.{get_or_default, get_or-take, take_more}
 use Rattle.words.specs.declared.Pair.{Pair}
 use Rattle.words.specs.Stamps.{start_pair}
 use Rattle.words.specs.declared.Message.{Message}
@@ -12,7 +12,6 @@ use Rattle.tables.specs.declared.Kind.TheVariants.{Read, Write}
 use Rattle.tables.specs.declared.Row.{Row}
 use Rattle.state.specs.State.{fresh_replica, State, replica_of, view}
 use Rattle.state.specs.declared.Bench.{Bench}
-use Rattle.std.proofs.lemmas.List.{get_or_default}
 use Rattle.text.specs.Lines.{pair_text, is_blank, blank_text, row_head, row_rest, reg_text, reg_texts}
 use Rattle.text.specs.Lines.{proc_texts, store_texts, run_text, proc_text, count_text, tail_text}
 use Rattle.text.specs.Short.{ShortPairs, ShortStores}

@@ -2,27 +2,13 @@
 ghost use Rattle.std.specs.Prelude.{◌+◌, ◌≤◌, ◌++◌, length};
 ghost use Rattle.text.specs.Lines.{run_text, state_text, count_text};
 ghost use Rattle.text.specs.Paged.{Room, Adds};
-ghost use Rattle.text.specs.Printed.{number, printed_refusal, proc_line};
+ghost use Rattle.text.specs.Printed.{number, proc_line};
 ghost use Rattle.text.specs.Short.{Short};
-ghost use Rattle.text.specs.Written.{Wrote};
 
 use crate::numbers::Number;
 use crate::page::Page;
-use crate::refused::put_refused;
 use replica::Replica;
 use state::Bench;
-
-pub fn put_refusal(buf: &mut [u8], at: usize, refusal: u8) -> usize
-    requires { at + 14 ≤ length buf.old }
-    ensures { Wrote at (printed_refusal refusal) 14 buf.old buf.new result }
-{
-    let mut page = Page {
-        bytes: buf,
-        used: at,
-    };
-    put_refused(&mut page, refusal);
-    page.used
-}
 
 // The first line: the bench, and the number of what stopped the run, 0 for the end.
 pub fn put_run_line(page: &mut Page<'_>, bench: &Bench, refusal: u8)

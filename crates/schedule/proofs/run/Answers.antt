@@ -26,8 +26,8 @@ pub returns-clause-reply : goal.returns-clause-reply
 returns-clause-reply c =
     let a = c.args in
     let p =
-        played a.messages.now a.rows.now a.bytes.now c.in_ok-bench.bench c.in_ok-bench.ensures _ c.run_events.new.messages c.run_events.new.rows
-        (rw (c.clear_messages.ensures, c.clear_rows.ensures) at c.run_events.ensures) in
+    played a.messages.now a.rows.now a.bytes.now c.in_ok-bench.bench c.in_ok-bench.ensures _ c.run_events.new.messages c.run_events.new.rows
+    (rw (c.clear_messages.ensures, c.clear_rows.ensures) at c.run_events.ensures) in
     (p.reply, (p.messages-left, p.rows_left))
 
 pub returns-clause-opens : goal.returns-clause-opens

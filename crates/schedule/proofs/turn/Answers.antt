@@ -1,5 +1,4 @@
 -- The end stops the run, and so does a refusal; behind an event that is carried out it goes on.
-use Rattle.std.proofs.Common.{sym}
 use Rattle.std.proofs.lemmas.Result.{err_from_is_err_and}
 use Rattle.schedule.proofs.TurnLaws.{stops-unread, stops-ended, stops-refused, goes}
 use Rattle.schedule.proofs.turn.Goals as goal
