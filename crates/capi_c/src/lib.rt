@@ -1,4 +1,5 @@
 // The static library of the C interface: each function of capi, exported under its own name. In C a slice is a pointer and then a length (include/wagonmoth.h).
+// The C interface needs each twice: a static library exports only functions of its own.
 #![tactic(auto)]
 
 ghost use Rattle.std.specs.Prelude.{◌≡◌, ◌+◌, ◌*◌};
@@ -15,7 +16,7 @@ use figures::{Added, Sheet};
 pub extern "C" fn wagonmoth_replay(bytes: &[u8], out: &mut [u8]) -> usize
     ensures { (result ≡ replay_reply bytes.now out.old) × (out.new ≡ replay_left bytes.now out.old) }
 {
-    capi::wagonmoth_replay(bytes, &mut *out)
+    capi::wagonmoth_replay(bytes, out)
 }
 
 // No text of a replay is longer.
@@ -55,7 +56,7 @@ pub extern "C" fn wagonmoth_add_schedule(sheet: Sheet, bytes: &[u8]) -> Added
 pub extern "C" fn wagonmoth_print_sheet(sheet: Sheet, out: &mut [u8]) -> usize
     ensures { (result ≡ print_reply sheet out.old) × (out.new ≡ print_left sheet out.old) }
 {
-    capi::wagonmoth_print_sheet(sheet, &mut *out)
+    capi::wagonmoth_print_sheet(sheet, out)
 }
 
 // No text of a sheet is longer.

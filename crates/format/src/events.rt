@@ -9,7 +9,7 @@ use state::Event;
 use words::Pid;
 use words::refusal::Refusal;
 
-// The event at a place, and the place behind it; none at the end.
+// The event at a place, and the place behind it; none at the end. By a place and not by what is left: `event_at` of the specs, and the runs above, speak of places.
 #[tactic(auto, unfolding(crate::specs::Format::event_at))]
 pub fn event_at(bytes: &[u8], at: usize) -> Result<Option<(Event, usize)>, Refusal>
     ensures { parse result ≡ event_at bytes.now at }

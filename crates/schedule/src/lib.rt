@@ -53,6 +53,7 @@ pub fn run_events(
     requires { tabled bench messages.old rows.old ≡ true }
     ensures { RanOn bench bytes.now at messages.old rows.old (stepped_by result) messages.new rows.new }
 {
+    // A loop: how far an event reaches, and whether it is refused, is known only once it is carried out.
     loop {
         match turn(messages, rows, bench, bytes, at) {
             Ok(Some((next, behind))) => {

@@ -25,6 +25,7 @@ fn put_reading(page: &mut Page<'_>, bytes: &[u8])
     requires bytes_in_bounds { (page.old.used ≤ length page.old.bytes.now) × (6 * length bytes.now ≤ length page.old.bytes.now) }
     ensures { Adds (reading_text (read_out bytes.now)) (6 * length bytes.now - page.old.used) page.old page.new }
 {
+    // A loop: how far an event reaches is known only once it is read.
     let mut place = HEAD;
     loop {
         match event_at(bytes, place) {
