@@ -17,7 +17,7 @@ use judge::is_tabled;
 use order::fill_order;
 use standing::{Status, standings_of};
 use state::{Bench, Event};
-use tables::{Row, clear_messages, clear_rows};
+use tables::Row;
 use words::Message;
 use words::limits::{MESSAGE_PLACES, PROCESSES, REGISTERS, ROW_PLACES};
 use words::ranges::is_within;
@@ -48,8 +48,8 @@ pub fn start(n: u8, m: u8, messages: &mut [Message], rows: &mut [Row]) -> Result
         × (rows.new ≡ cond (starts n m (length messages.old) (length rows.old)) (replicate 1024 empty_row) rows.old)) }
 {
     check_start(n, m, messages.len(), rows.len())?;
-    clear_messages(messages);
-    clear_rows(rows);
+    messages.fill(Message::default());
+    rows.fill(Row::default());
     Ok(fresh::fresh_bench(n, m))
 }
 
@@ -65,7 +65,12 @@ pub fn status(b: Bench, messages: &[Message], rows: &[Row]) -> Result<[Status; 7
 }
 
 // One event. A refused one changes nothing.
-pub fn step(b: Bench, event: Event, messages: &mut [Message], rows: &mut [Row]) -> Result<Bench, Refusal>
+pub fn step(
+    b: Bench,
+    event: Event,
+    messages: &mut [Message],
+    rows: &mut [Row],
+) -> Result<Bench, Refusal>
     ensures { (stepped b result ≡ step_reply b event messages.old rows.old)
         × ((messages.new ≡ step_messages b event messages.old rows.old)
         × (rows.new ≡ step_rows b event messages.old rows.old)) }

@@ -3,3 +3,4 @@ pub mod Scans
 -- Laws
 pub mod ScanLaws
 pub mod TabledLaws
+pub mod FreshLaws

@@ -14,7 +14,6 @@ ghost use Rattle.judge.specs.Scans.{
 use crate::needed::needed_in;
 use crate::replied::has_queried;
 use crate::{Limits, Waiting};
-use replica::phases::is_idle;
 use replica::{Phase, Replica};
 use words::Pair;
 use words::quorum::size;
@@ -82,15 +81,10 @@ fn replica_fits(l: Limits, w: Waiting, r: Replica) -> bool
 }
 
 // The replica of a process behind them: up, idle and otherwise 0.
-fn is_fresh(l: Limits, r: Replica) -> bool
+fn is_fresh(r: Replica) -> bool
     ensures { result ≡ is_fresh r }
 {
-    !r.crashed
-        & (r.clock.0 == 0)
-        & (r.rid.0 == 0)
-        & is_idle(r.phase)
-        & (r.repliers == 0)
-        & stored_fit(l, 0, r.pairs)
+    r == Replica::default()
 }
 
 fn process_fits(l: Limits, p: u8, w: Waiting, r: Replica) -> bool
@@ -99,7 +93,7 @@ fn process_fits(l: Limits, p: u8, w: Waiting, r: Replica) -> bool
     if p <= l.n {
         replica_fits(l, w, r)
     } else {
-        is_fresh(l, r)
+        is_fresh(r)
     }
 }
 

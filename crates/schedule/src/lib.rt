@@ -12,7 +12,7 @@ use bench::fresh::fresh_bench;
 use format::events::event_at;
 use format::file::{HEAD, M_AT, N_AT, file_refusal};
 use state::Bench;
-use tables::{Row, clear_messages, clear_rows};
+use tables::Row;
 use words::Message;
 use words::limits::{MESSAGE_PLACES, ROW_PLACES};
 use words::refusal::Refusal;
@@ -94,7 +94,7 @@ pub fn run(messages: &mut [Message], rows: &mut [Row], bytes: &[u8]) -> Result<R
     ensures opens { is_ok result ≡ opens (length messages.old) (length rows.old) bytes.now }
 {
     let bench = opening(bytes, messages.len(), rows.len())?;
-    clear_messages(messages);
-    clear_rows(rows);
+    messages.fill(Message::default());
+    rows.fill(Row::default());
     Ok(run_events(messages, rows, bench, bytes, HEAD))
 }

@@ -2,7 +2,7 @@
 // what is stored is decided elsewhere, by value.
 #![tactic(auto)]
 
-ghost use Rattle.std.specs.Prelude.{◌≡◌, ◌+◌, ◌≤◌, ◌<◌, ◌∷◌, ◌++◌, length, get_or, set, take, drop, replicate};
+ghost use Rattle.std.specs.Prelude.{◌≡◌, ◌+◌, ◌≤◌, ◌<◌, ◌∷◌, ◌++◌, length, set, take, drop};
 ghost use Rattle.tables.specs.Tables.{empty_message, empty_row, nobody, seek, removed, following, copies, laid_at};
 
 use words::{Message, Pid, Rid, Stamp, Time};
@@ -115,70 +115,4 @@ pub fn post(t: &mut [Message], at: usize, count: u8, first: Message)
         *place = m;
         m = next_copy(m);
     }
-}
-
-pub fn empty_message() -> Message
-    ensures { result ≡ empty_message }
-{
-    Message::default()
-}
-
-pub fn nobody_yet() -> Replied
-    ensures { result ≡ nobody }
-{
-    Replied::default()
-}
-
-pub fn empty_row() -> Row
-    ensures { result ≡ empty_row }
-{
-    Row::default()
-}
-
-pub fn message_count(t: &[Message]) -> usize
-    ensures { result ≡ length t.now }
-{
-    t.len()
-}
-
-pub fn row_count(t: &[Row]) -> usize
-    ensures { result ≡ length t.now }
-{
-    t.len()
-}
-
-pub fn message_at(t: &[Message], i: usize) -> Message
-    ensures { result ≡ get_or t.now i empty_message }
-{
-    t.get(i).copied().unwrap_or_default()
-}
-
-pub fn row_at(t: &[Row], i: usize) -> Row
-    ensures { result ≡ get_or t.now i empty_row }
-{
-    t.get(i).copied().unwrap_or_default()
-}
-
-pub fn put_message(t: &mut [Message], i: usize, m: Message)
-    ensures { t.new ≡ set t.old i m }
-{
-    put(t, i, m);
-}
-
-pub fn put_row(t: &mut [Row], i: usize, r: Row)
-    ensures { t.new ≡ set t.old i r }
-{
-    put(t, i, r);
-}
-
-pub fn clear_messages(t: &mut [Message])
-    ensures { t.new ≡ replicate (length t.old) empty_message }
-{
-    t.fill(Message::default());
-}
-
-pub fn clear_rows(t: &mut [Row])
-    ensures { t.new ≡ replicate (length t.old) empty_row }
-{
-    t.fill(Row::default());
 }

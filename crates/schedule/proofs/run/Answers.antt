@@ -20,14 +20,14 @@ returns-in_err-bench-clause-opens c =
 pub run_events-requires : goal.run_events-requires
 run_events-requires c =
     let a = c.args in
-    rw (c.clear_messages.ensures, c.clear_rows.ensures) (start-tabled a.messages.now a.rows.now a.bytes.now c.in_ok-bench.bench c.in_ok-bench.ensures)
+    rw (c.fill.ensures.after (λ y e. e), c.default.ensures, c.fill-2.ensures.after (λ y e. e), c.default-2.ensures) (start-tabled a.messages.now a.rows.now a.bytes.now c.in_ok-bench.bench c.in_ok-bench.ensures)
 
 pub returns-clause-reply : goal.returns-clause-reply
 returns-clause-reply c =
     let a = c.args in
     let p =
     played a.messages.now a.rows.now a.bytes.now c.in_ok-bench.bench c.in_ok-bench.ensures _ c.run_events.new.messages c.run_events.new.rows
-    (rw (c.clear_messages.ensures, c.clear_rows.ensures) at c.run_events.ensures) in
+    (rw (c.fill.ensures.after (λ y e. e), c.default.ensures, c.fill-2.ensures.after (λ y e. e), c.default-2.ensures) at c.run_events.ensures) in
     (p.reply, (p.messages-left, p.rows_left))
 
 pub returns-clause-opens : goal.returns-clause-opens
