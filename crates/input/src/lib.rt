@@ -16,6 +16,7 @@ pub fn read_full<R: Read>(input: &mut R, buffer: &mut [u8]) -> io::Result<usize>
 {
     // By what was read so far: how much a read gives is known only after it.
     let mut done = 0;
+    // A `for` is no plainer: a read gives as many bytes as it likes, and the end comes at any turn.
     while done < buffer.len() {
         let n = input.read(&mut buffer[done..])?;
         if n == 0 {
