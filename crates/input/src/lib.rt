@@ -14,7 +14,6 @@ pub fn read_full<R: Read>(input: &mut R, buffer: &mut [u8]) -> io::Result<usize>
     ensures bytes { IfOk result (λ n. Consumes (R.remaining input.old) (R.remaining input.new) (take n buffer.new)) }
     ensures whole { IfOk result (λ n. n < length buffer.new → IsAtEnd (R.remaining input.new)) }
 {
-    // By what was read so far: how much a read gives is known only after it.
     let mut done = 0;
     // A `for` is no plainer: a read gives as many bytes as it likes, and the end comes at any turn.
     while done < buffer.len() {
