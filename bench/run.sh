@@ -47,8 +47,8 @@ trap 'rm -rf "$work"' EXIT
 # ---- the variant: one call is edited in a copy of `repeat` and of what it stands on, and what changes by it is proved and built anew, by the same words as the program itself.
 build_variant() {
     local copy=$work/copy
-    copy_crates "$copy" repeat && mkdir -p "$copy/crates/schedule/proofs/carry_out" && cp bench/step-answers.txt "$copy/crates/schedule/proofs/carry_out/Answers.antt" || return
-    sed 's/advance::advance(&mut \*messages, &mut \*rows, bench, event)/bench::step(bench, event, \&mut *messages, \&mut *rows)/' \
+    copy_crates "$copy" repeat && cp bench/step-answers.txt "$copy/crates/schedule/proofs/turn/Answers.antt" || return
+    sed -e 's/= advance(messages, rows, bench, event)/= bench::step(bench, event, messages, rows)/' -e '/^use advance::advance;$/d' \
         crates/schedule/src/lib.rt >"$copy/crates/schedule/src/lib.rt"
     [ "$(diff crates/schedule/src/lib.rt "$copy/crates/schedule/src/lib.rt" | grep -c '^>')" = 1 ] || { echo 'the call of advance is not found in crates/schedule/src/lib.rt'; return 1; }
     (cd "$copy/crates/repeat" && rt run </dev/null) && cp "$copy/crates/repeat/out/repeat" "$work/step"

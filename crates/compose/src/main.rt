@@ -9,7 +9,8 @@ use std::io;
 // The longest text that is read.
 const LONGEST_TEXT: usize = 393216;
 
-const USAGE: &str = "compose < TEXT > FILE\nMakes the schedule file of a text: bench N M, then read P X, write P X V, deliver K, crash P, lose K, a line each.";
+const USAGE: &str =
+    "compose < TEXT > FILE\nMakes the schedule file of a text: bench N M, then read P X, write P X V, deliver K, crash P, lose K, a line each.";
 
 fn complain(rt: &HostRuntime, line: usize, fault: Fault) -> io::Result<()> {
     let mut note = [0u8; LONGEST_COMPLAINT];

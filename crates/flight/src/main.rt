@@ -5,7 +5,8 @@ use format::file::LONGEST;
 use inflight::LONGEST_TEXT;
 use std::io;
 
-const USAGE: &str = "flight < FILE\nPrints the messages in flight after the schedule in FILE, one a line.";
+const USAGE: &str =
+    "flight < FILE\nPrints the messages in flight after the schedule in FILE, one a line.";
 
 fn main(rt: HostRuntime) -> io::Result<()> {
     let mut bytes = [0u8; LONGEST + 1];

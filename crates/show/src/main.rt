@@ -5,7 +5,8 @@ use format::file::LONGEST;
 use showing::LONGEST_TEXT;
 use std::io;
 
-const USAGE: &str = "show < FILE\nPrints the schedule in FILE as text, which compose makes the same file of.";
+const USAGE: &str =
+    "show < FILE\nPrints the schedule in FILE as text, which compose makes the same file of.";
 
 fn print(rt: &HostRuntime, schedule: &[u8], text: &mut [u8]) -> io::Result<()> {
     match showing::show(schedule, text) {
@@ -17,5 +18,10 @@ fn print(rt: &HostRuntime, schedule: &[u8], text: &mut [u8]) -> io::Result<()> {
 fn main(rt: HostRuntime) -> io::Result<()> {
     let mut bytes = [0u8; LONGEST + 1];
     let mut text = [0u8; LONGEST_TEXT];
-    input::run(&rt, USAGE, &mut bytes, |schedule| print(&rt, schedule, &mut text))
+    input::run(
+        &rt,
+        USAGE,
+        &mut bytes,
+        |schedule| print(&rt, schedule, &mut text),
+    )
 }
