@@ -1,7 +1,8 @@
 // The history file of a schedule: its bytes in, the history and the one order out, as a file that `verdicts` judges. The tables are made here, so a caller lends only the bytes and a buffer.
 #![tactic(auto)]
 
-ghost use Rattle.std.specs.Prelude.{◌≡◌, ◌≤◌, is_ok, leb, length};
+ghost use Rattle.std.specs.Prelude.{◌≡◌, ◌≤◌, is_ok, leb, length, IfErr};
+ghost use Rattle.words.specs.declared.refusal.Refusal.TheVariants.{ShortOutput};
 ghost use Rattle.text.specs.Written.{Wrote};
 ghost use Rattle.replaying.specs.Replayed.{written, Fronts};
 ghost use Rattle.recording.specs.Recording.{recorded, history_reply, history_left};
@@ -37,6 +38,7 @@ fn history_into(out: &mut [u8], listing: &mut [u16], bytes: &[u8]) -> usize
 pub fn history(bytes: &[u8], out: &mut [u8]) -> Result<usize, Refusal>
     ensures value { (written result ≡ history_reply bytes.now out.old) × (out.new ≡ history_left bytes.now out.old) }
     ensures room { is_ok result ≡ leb 14345 (length out.old) }
+    ensures short { IfErr result (λ e. e ≡ ShortOutput) }
     ensures fronts { Fronts (written result) out.new }
 {
     if out.len() < LONGEST_FILE {

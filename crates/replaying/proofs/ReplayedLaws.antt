@@ -1,11 +1,11 @@
 -- What a run over a table of 1,024 rows says of its file, from whether its bench has processes; and that the text which is written from it is the replay's.
-use Rattle.std.specs.Prelude.{ℕ, ◌+◌, ◌-◌, ◌≤◌, ◌<◌, ◌≡◌, Bool, true, false, not, List, ◌++◌, eqb, get_or, take, replicate}
+use Rattle.std.specs.Prelude.{ℕ, ◌+◌, ◌-◌, ◌≤◌, ◌<◌, ◌≡◌, Bool, true, false, List, ◌++◌, eqb, get_or, take, replicate}
 use Rattle.std.proofs.Math.Path.{refl, ap}
-use Rattle.std.proofs.Common.{sym, subst, ◌∙◌, true≢false, arith, length-append, length-take, get_or-take, eqb-true, eq-eqb, le-leb}
+use Rattle.std.proofs.Common.{sym, subst, ◌∙◌, arith, length-append, length-take, get_or-take, eqb-true, eq-eqb, le-leb}
 use Rattle.std.proofs.Math.Bool.{cond}
 use Rattle.std.proofs.Math.ListN.{length}
 use Rattle.std.proofs.Math.Seq.{take-append_seam}
-use Rattle.std.proofs.lemmas.Bool.{not-false, lt-leb}
+use Rattle.std.proofs.lemmas.Bool.{lt-leb}
 use Rattle.words.specs.declared.Message.{Message}
 use Rattle.tables.specs.declared.Row.{Row}
 use Rattle.tables.specs.Tables.{empty_message, empty_row, laid_at}

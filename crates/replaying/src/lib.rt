@@ -1,7 +1,8 @@
 // A whole replay: the bytes of a schedule in, its text out. The tables are made here, so a caller lends only the bytes and a buffer for the text.
 #![tactic(auto)]
 
-ghost use Rattle.std.specs.Prelude.{◌≡◌, ◌≤◌, is_ok, leb, length};
+ghost use Rattle.std.specs.Prelude.{◌≡◌, ◌≤◌, is_ok, leb, length, IfErr};
+ghost use Rattle.words.specs.declared.refusal.Refusal.TheVariants.{ShortOutput};
 ghost use Rattle.text.specs.Written.{Wrote};
 ghost use Rattle.schedule.specs.Opening.{opens, run_reply};
 ghost use Rattle.schedule.specs.Turns.{replied_by};
@@ -53,6 +54,7 @@ fn replay_into(out: &mut [u8], listing: &mut [u16], bytes: &[u8]) -> usize
 pub fn replay(bytes: &[u8], out: &mut [u8]) -> Result<usize, Refusal>
     ensures value { (written result ≡ replay_reply bytes.now out.old) × (out.new ≡ replay_left bytes.now out.old) }
     ensures room { is_ok result ≡ leb 81563 (length out.old) }
+    ensures short { IfErr result (λ e. e ≡ ShortOutput) }
     ensures fronts { Fronts (written result) out.new }
 {
     if out.len() < LONGEST_TEXT {

@@ -1,6 +1,4 @@
-use Rattle.std.proofs.Common.{arith, sym, leb, le-leb}
-use Rattle.std.proofs.lemmas.Bool.{lt-leb}
-use Rattle.std.proofs.Math.ListN.{length}
+use Rattle.std.proofs.Common.{arith}
 use Rattle.replaying.proofs.ReplayedLaws.{long-reply, long-left, short-reply, short-left}
 use Rattle.replaying.proofs.replay.Goals as goal
 
