@@ -1,6 +1,5 @@
 -- What the functions inside promise and ask: what one row comes to, and sums that stay within 64 bits.
 use Rattle.std.specs.Prelude.{ℕ, ◌+◌, ◌≤◌, ◌<◌, ◌^◌, Bool, cond, ◌&&◌, [], ◌∷◌, get_or}
-use Rattle.words.specs.declared.refusal.Refusal.{Refusal}
 use Rattle.words.specs.Refusals.{number}
 use Rattle.state.specs.declared.Bench.{Bench}
 use Rattle.figures.specs.declared.Entry.{Entry}
@@ -74,5 +73,5 @@ bench_traffic b = record { sent = b.sent; delivered = b.delivered; lost = b.lost
 abbrev pub run_entry : Bench → History → Entry
 run_entry b history = record { refusal = 0; history = history; traffic = bench_traffic b }
 
-abbrev pub refused_entry : Refusal → Entry
-refused_entry e = record { refusal = number e; history = history_of []; traffic = no_traffic }
+abbrev pub refused_entry : ℕ → Entry
+refused_entry number = record { refusal = number; history = history_of []; traffic = no_traffic }

@@ -4,7 +4,6 @@ ghost use Rattle.figures.specs.Parts.{bench_traffic, run_entry, refused_entry};
 
 use crate::{Entry, History, Traffic};
 use state::Bench;
-use words::refusal::Refusal;
 
 fn traffic_of(bench: Bench) -> Traffic
     ensures { result ≡ bench_traffic bench }
@@ -29,12 +28,12 @@ impl Entry {
         }
     }
 
-    // Of a file that starts no bench.
-    pub fn refused(refusal: Refusal) -> Entry
-        ensures { result ≡ refused_entry refusal }
+    // Of a file that starts no bench, by its number, whichever it is.
+    pub fn refused(number: u8) -> Entry
+        ensures { result ≡ refused_entry number }
     {
         Entry {
-            refusal: refusal.number(),
+            refusal: number,
             history: History::default(),
             traffic: Traffic::default(),
         }

@@ -41,7 +41,7 @@ module _ (bytes : List ℕ) where
         ∙ sym (ap adds (eq-eqb (file_refusal bytes) 0 s.file))
 
   -- one that starts none
-  pub refused-counted : (e : Refusal) → number e ≡ file_refusal bytes → eqb (file_refusal bytes) 0 ≡ false → refused_entry e ≡ added_by bytes
+  pub refused-counted : (e : Refusal) → number e ≡ file_refusal bytes → eqb (file_refusal bytes) 0 ≡ false → refused_entry (number e) ≡ added_by bytes
   unfolding added_by
   refused-counted e f none = ap (λ (k : ℕ). record { refusal = k; history = history_of []; traffic = no_traffic }) f ∙ sym (ap adds none)
 

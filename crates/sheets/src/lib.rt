@@ -36,7 +36,7 @@ fn count_file(bytes: &[u8]) -> Entry
             let used = usize::from(ran.bench.rows);
             Entry::of_run(ran.bench, count_rows(&rows[..used]))
         }
-        Err(refusal) => Entry::refused(refusal),
+        Err(refusal) => Entry::refused(refusal.number()),
     }
 }
 

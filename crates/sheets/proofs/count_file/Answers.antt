@@ -3,6 +3,7 @@ use Rattle.std.proofs.Common.{◌≤◌, ◌∙◌, ap, length, ℕ, replicate, 
 use Rattle.std.proofs.lemmas.List.{length-replicate, length-take-le}
 use Rattle.schedule.specs.Turns.{stepped_by}
 use Rattle.figures.specs.Figures.{history_of}
+use Rattle.figures.specs.Parts.{refused_entry}
 use Rattle.replaying.proofs.ReplayedLaws.{begun, unbegun, number-given}
 use Rattle.sheets.proofs.EntryLaws.{used-fit, run-counted, refused-counted}
 use Rattle.sheets.proofs.count_file.Goals as goal
@@ -41,4 +42,4 @@ returns-in-Err c =
     let long = length-replicate 1024 c.default-rows.result in
     let g = c.in-Err.ensures in
     let none = unbegun bytes made long _ g.reply.0 c.run_history.new.rows g.reply.1 g.opens in
-    c.refused.ensures ∙ refused-counted bytes c.in-Err.refusal (number-given bytes made long _ g.reply.0 c.run_history.new.rows g.reply.1 none) none
+    c.refused.ensures ∙ ap refused_entry c.number.ensures ∙ refused-counted bytes c.in-Err.refusal (number-given bytes made long _ g.reply.0 c.run_history.new.rows g.reply.1 none) none
