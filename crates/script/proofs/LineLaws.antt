@@ -1,8 +1,9 @@
 -- Lines and words from the front: the first, and then those of what is behind it.
-use Rattle.std.specs.Prelude.{ℕ, suc, ◌+◌, ◌-◌, ◌≤◌, ◌<◌, ◌≡◌, refl, Bool, true, false, cond, not, List, [], ◌∷◌, eqb, ltb, length, take, drop, Some, None}
+use Rattle.std.specs.Prelude.{ℕ, suc, ◌+◌, ◌-◌, ◌≤◌, ◌<◌, ◌≡◌, refl, Bool, true, false, cond, not, List, [], ◌∷◌, eqb, ltb, length, take, drop, min, Some, None}
 use Rattle.std.specs.List.{position, position_or_len}
 use Rattle.std.specs.Option.{unwrap_or}
 use Rattle.std.proofs.Common.{sym, ap, ◌∙◌, arith, length-drop}
+use Rattle.std.proofs.Math.Decide.{dec_le}
 use Rattle.std.proofs.lemmas.Bool.{ltb-false}
 use Rattle.std.proofs.lemmas.Grind.{common_steps}
 use Rattle.std.proofs.lemmas.List.Recursion.{is_position_or_len}
@@ -166,6 +167,26 @@ or-all n most l = go (ltb n most) refl
     go : (t : Bool) → ltb n most ≡ t → unwrap_or (cond t (Some n) None) most ≡ n
     go true e = refl
     go false e = omega (arith, l, ltb-false n most e)
+
+-- a text cut where the byte stands first, or at its end
+module _ (byte : ℕ) (text : List ℕ) (end : ℕ) (found : end ≡ unwrap_or (position (λ b. eqb b byte) text) (length text)) where
+  ends : length (before byte text) ≡ end
+  ends = before-length byte text ∙ sym (or-all (position_or_len (λ b. eqb b byte) text) (length text) (omega (arith, before-length byte text, before-within byte text))) ∙ sym found
+
+  pub end-within : end ≤ length text
+  end-within = omega (arith, ends, before-within byte text)
+
+  pub end-front : take end text ≡ before byte text
+  end-front = ap (λ n. take n text) (sym ends) ∙ take-before byte text
+
+  pub end-back : (n : ℕ) → n ≡ min (end + 1) (length text) → take (length text - n) (drop n text) ≡ behind byte text
+  end-back n is =
+      take-all (drop n text) (length text - n) (omega (arith, length-drop n text))
+      ∙ elim (dec_le (end + 1) (length text)) [
+        | yes inside ↦ ap (λ n. drop n text) (let e : n ≡ suc (length (before byte text)) = omega (arith, is, ends, inside) in e)
+        | no past ↦ at-end text n (omega (arith, is, past)) ∙ sym (at-end text (suc (length (before byte text))) (omega (arith, ends, past)))
+      ]
+      ∙ drop-behind byte text
 
 -- a text cut where the byte was found, and where it was not
 module _ (byte : ℕ) (text : List ℕ) where

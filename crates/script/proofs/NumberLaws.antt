@@ -6,7 +6,7 @@ use Rattle.std.proofs.Common.{sym, ap, ◌∙◌, arith, drop-cons, eqb-true, eq
 use Rattle.script.specs.declared.Fault.{Fault}
 use Rattle.script.specs.declared.Fault.TheVariants.{NotANumber, TooLarge}
 use Rattle.script.specs.Meaning.{and_then}
-use Rattle.script.specs.Numbers.{digits_only, is_empty, is_number, value, figure_of, positive_of, negative_of, amount_of}
+use Rattle.script.specs.Numbers.{digits_only, is_empty, leads, is_number, value, figure_of, positive_of, negative_of, amount_of}
 use Rattle.script.proofs.LineLaws.{at-end}
 use Rattle.script.specs.NumberLaws.{value_grows}
 
@@ -22,6 +22,10 @@ pub number_front : (w : List ℕ) (b : ℕ) (rest : List ℕ) (all none : Bool) 
 number_front w b rest all none front digits alone =
     ap (λ t. t && (none || not (eqb b 48))) (digits ∙ digits_all w ∙ ap digits_only front) ∙ ap (λ t. digits_only (b ∷ rest) && (t || not (eqb b 48))) (alone ∙ empty rest) ∙ ap is_number (sym front)
 
+pub number_parts : (w : List ℕ) → (list_all is_ascii_digit w && leads w) ≡ is_number w
+number_parts [] = refl
+number_parts (b ∷ rest) = ap (λ t. t && (is_empty rest || not (eqb b 48))) (digits_all (b ∷ rest))
+
 -- ---- what is left of the digits
 
 module _ (w : List ℕ) (i n : ℕ) where
@@ -30,6 +34,9 @@ module _ (w : List ℕ) (i n : ℕ) where
 
   pub value_past : i < length w → value n (drop i w) ≡ value 0 w → (10 * n + (get_or w i 0 - 48) < 18446744073709551616 → ⊥) → value 0 w < 18446744073709551616 → ⊥
   value_past l e past small = past (omega (arith, e, value_next l, value_grows (10 * n + (get_or w i 0 - 48)) (drop (suc i) w), small))
+
+  pub digits_whole : length w ≤ i → digits_only (drop i w) ≡ digits_only w → digits_only w ≡ true
+  digits_whole l e = sym e ∙ ap digits_only (at-end w i l)
 
   pub value_whole : length w ≤ i → value n (drop i w) ≡ value 0 w → value 0 w ≡ n
   value_whole l e = sym e ∙ ap (value n) (at-end w i l)

@@ -14,6 +14,11 @@ abbrev pub is_empty : List ℕ → Bool
 is_empty [] = true
 is_empty (b ∷ rest) = false
 
+-- a first digit, and no zero in front of others
+abbrev pub leads : List ℕ → Bool
+leads [] = false
+leads (b ∷ rest) = is_empty rest || not (eqb b 48)
+
 abbrev pub is_number : List ℕ → Bool
 is_number [] = false
 is_number (b ∷ rest) = digits_only (b ∷ rest) && (is_empty rest || not (eqb b 48))

@@ -16,10 +16,8 @@ pub fn cut(text: &[u8], byte: u8) -> (&[u8], &[u8])
     ensures front { result.0.now ≡ before byte text.now }
     ensures back { result.1.now ≡ behind byte text.now }
 {
-    match place_of(text, byte) {
-        Some(at) => (&text[..at], &text[at + 1..]),
-        None => (text, &[]),
-    }
+    let end = place_of(text, byte).unwrap_or(text.len());
+    (&text[..end], &text[(end + 1).min(text.len())..])
 }
 
 // The lines of a text that are left.

@@ -51,6 +51,8 @@ fn plain_line(line: &[u8]) -> Result<Line, Fault>
     Ok(says)
 }
 
+// Inlined, as each line is gone over twice: what a line says is else laid in memory and taken up again.
+#[inline(always)]
 pub fn line_of(line: &[u8]) -> Result<Line, Fault>
     ensures { result ≡ line_of line.now }
 {

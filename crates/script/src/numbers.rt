@@ -1,8 +1,8 @@
 // A word as a number: digits, with no zero in front of others. A value may have a sign in front.
-ghost use Rattle.std.specs.Prelude.{◌≡◌, ◌^◌, ◌<◌, ◌≤◌, SomeIff, IfOk};
+ghost use Rattle.std.specs.Prelude.{◌≡◌, ◌^◌, ◌<◌, ◌≤◌, true, SomeIff, IfOk};
 ghost use Rattle.std.specs.Char.{is_ascii_digit};
 ghost use Rattle.std.specs.List.{list_all};
-ghost use Rattle.script.specs.Numbers.{is_number, value, figure_of, amount_of};
+ghost use Rattle.script.specs.Numbers.{digits_only, leads, is_number, value, figure_of, amount_of};
 
 use crate::Fault;
 
@@ -17,42 +17,47 @@ fn are_digits(word: &[u8]) -> bool
     word.iter().all(|b| b.is_ascii_digit())
 }
 
-fn is_number(word: &[u8]) -> bool
-    ensures { result ≡ is_number word.now }
+// There is a first digit, and no zero in front of others.
+fn leads(word: &[u8]) -> bool
+    ensures { result ≡ leads word.now }
 {
     let Some((first, others)) = word.split_first() else {
         return false;
     };
-    let alone = others.is_empty();
-    let leads = *first != b'0';
-    are_digits(word) & (alone | leads)
+    others.is_empty() | (*first != b'0')
 }
 
-// The number that digits make; none where it is past 64 bits.
+#[tactic(auto, using(crate::proofs::NumberLaws::number_parts))]
+fn is_number(word: &[u8]) -> bool
+    ensures { result ≡ is_number word.now }
+{
+    are_digits(word) & leads(word)
+}
+
+// The number that digits make; none where a byte is no digit, or the number is past 64 bits.
 fn value_of(digits: &[u8]) -> Option<u64>
-    ensures { SomeIff result (value 0 digits.now < 2 ^ 64) (value 0 digits.now) }
+    ensures { SomeIff result ((digits_only digits.now ≡ true) × (value 0 digits.now < 2 ^ 64)) (value 0 digits.now) }
 {
     let mut n: u64 = 0;
     for digit in digits {
-        n = n
-            .checked_mul(10)?
-            .checked_add(u64::from(digit.saturating_sub(b'0')))?;
+        if !digit.is_ascii_digit() {
+            return None;
+        }
+        n = n.checked_mul(10)?.checked_add(u64::from(digit - b'0'))?;
     }
     Some(n)
 }
 
-// A number of at most so much.
+// A number of at most so much. The digits are judged as they are read; which of the two is wrong is asked only where one is.
 #[tactic(auto, unfolding(crate::specs::Numbers::figure_of))]
 pub fn figure(word: &[u8], most: u64) -> Result<u64, Fault>
     ensures value { result ≡ figure_of most word.now }
     ensures within { IfOk result (λ n. n ≤ most) }
 {
-    if !is_number(word) {
-        return Err(Fault::NotANumber);
-    }
     match value_of(word) {
-        Some(n) if n <= most => Ok(n),
-        _ => Err(Fault::TooLarge),
+        Some(n) if leads(word) && n <= most => Ok(n),
+        _ if is_number(word) => Err(Fault::TooLarge),
+        _ => Err(Fault::NotANumber),
     }
 }
 

@@ -1,16 +1,12 @@
--- The byte was found, or it is not there.
-use Rattle.std.proofs.Common.{◌∙◌, sym}
-use Rattle.script.proofs.LineLaws.{cut-front, cut-back, whole-front, whole-back}
+-- The byte was found, or the text ends first.
+use Rattle.std.specs.Option.{unwrap_or}
+use Rattle.std.proofs.Common.{◌∙◌, ap, length}
+use Rattle.script.proofs.LineLaws.{end-front, end-back}
 use Rattle.script.proofs.marks.cut.Goals as goal
 
-pub returns-in-Some-clause-front : goal.returns-in-Some-clause-front
-returns-in-Some-clause-front c = cut-front c.args.byte c.args.text.now c.in-Some.at (sym c.place_of.ensures ∙ c.in-Some.is)
+pub returns-clause-front : goal.returns-clause-front
+returns-clause-front c = end-front c.args.byte c.args.text.now c.unwrap_or-end.result (c.unwrap_or-end.ensures ∙ ap (λ r. unwrap_or r (length c.args.text.now)) c.place_of.ensures)
 
-pub returns-in-Some-clause-back : goal.returns-in-Some-clause-back
-returns-in-Some-clause-back c = cut-back c.args.byte c.args.text.now c.in-Some.at (sym c.place_of.ensures ∙ c.in-Some.is)
-
-pub returns-in-None-clause-front : goal.returns-in-None-clause-front
-returns-in-None-clause-front c = whole-front c.args.byte c.args.text.now (sym c.place_of.ensures ∙ c.in-None.is)
-
-pub returns-in-None-clause-back : goal.returns-in-None-clause-back
-returns-in-None-clause-back c = whole-back c.args.byte c.args.text.now (sym c.place_of.ensures ∙ c.in-None.is)
+pub returns-clause-back : goal.returns-clause-back
+returns-clause-back c =
+    end-back c.args.byte c.args.text.now c.unwrap_or-end.result (c.unwrap_or-end.ensures ∙ ap (λ r. unwrap_or r (length c.args.text.now)) c.place_of.ensures) c.min.result c.min.ensures
