@@ -23,4 +23,4 @@ module _ (b : Bench) (messages : List Message) (rows : List Row) where
   seven e = (well-tabled e).seven
 
   pub standings-same : cond (tabled b messages rows) (record { refusal = 0; of = standings_of b }) (downs 18) ≡ cond (tabled b messages rows) (statuses (view b messages rows)) (downs 18)
-  standings-same = where-true (tabled b messages rows) (record { refusal = 0; of = standings_of b }) (statuses (view b messages rows)) (downs 18) (λ e. sym (statuses-same b messages rows (well-tabled e).processes.most (seven e)))
+  standings-same = where-true (tabled b messages rows) (record { refusal = 0; of = standings_of b }) (statuses (view b messages rows)) (downs 18) (λ e. sym (statuses-same b messages rows (well-tabled e).processes.most))

@@ -1,4 +1,5 @@
 pub mod RunLaws
+pub mod BehindLaws
 pub mod TurnLaws
 pub mod OpeningLaws
 pub mod FileLaws

@@ -1,5 +1,5 @@
 -- What a run and one turn of it do to a bench and its two tables.
-use Rattle.std.specs.Prelude.{ℕ, ◌<◌, ◌≤◌, ◌≡◌, true, Option, Some, None, Result, Ok, Err, List, length}
+use Rattle.std.specs.Prelude.{ℕ, ◌<◌, ◌≤◌, ◌≡◌, Bool, true, false, Option, Some, None, Result, Ok, Err, List, eqb, length}
 use Rattle.words.specs.declared.refusal.Refusal.{Refusal}
 use Rattle.words.specs.declared.Message.{Message}
 use Rattle.words.specs.Refusals.{number}
@@ -7,8 +7,10 @@ use Rattle.words.specs.Stops.{stop_number}
 use Rattle.tables.specs.declared.Row.{Row}
 use Rattle.state.specs.declared.Bench.{Bench}
 use Rattle.state.specs.Stepped.{Stepped}
-use Rattle.state.specs.State.{view, laid_messages, laid_rows}
+use Rattle.state.specs.State.{State, view, laid_messages, laid_rows}
+use Rattle.state.specs.Step.{step}
 use Rattle.state.specs.Tabled.{tabled, bench_of}
+use Rattle.format.specs.Parse.{Parse, Next, Refused, End}
 use Rattle.bench.specs.Start.{no_bench}
 use Rattle.schedule.specs.declared.Ran.{Ran}
 use Rattle.schedule.specs.Run.{stopped, ran}
@@ -32,6 +34,18 @@ replied_by (Ok r) = stepped_by r
 replied_by (Err e) = record { refusal = number e; bench = no_bench }
 
 -- ---- one turn
+
+-- whether the run goes on from this state, and where
+pub record Went : Type 0 where
+  pub go : Bool
+  pub refusal : ℕ
+  pub state : State
+  pub at : ℕ
+
+abbrev pub went : State → Parse → Went
+went s (Next event at) = record { go = eqb (step s event).refusal 0; refusal = (step s event).refusal; state = (step s event).state; at = at }
+went s (Refused number) = record { go = false; refusal = number; state = s; at = 0 }
+went s End = record { go = false; refusal = 0; state = s; at = 0 }
 
 -- an event was carried out: the rest of the run goes on behind it
 pub record Goes (b : Bench) (bytes : List ℕ) (at : ℕ) (messages : List Message) (rows : List Row) (b' : Bench) (at' : ℕ) (messages' : List Message) (rows' : List Row) : Type 0 where

@@ -1,7 +1,9 @@
 -- The statuses by their numbers; and what the code finds of a bench, place by place, is the status of the state that it holds, whatever the tables.
 use Rattle.std.specs.Prelude.{ℕ, zero, suc, ◌+◌, ◌-◌, ◌≤◌, ◌≡◌, refl, List, [], ◌∷◌, map, Bool, true, false, cond, not, leb, length, count_by, get_or, take, drop, replicate}
-use Rattle.std.proofs.Common.{ap, ap₂, ◌∙◌, sym, arith}
+use Rattle.std.proofs.Common.{ap, ap₂, ◌∙◌, sym, arith, inl, inr, le-leb}
 use Rattle.std.proofs.Math.Seq.{drop-cons}
+use Rattle.std.proofs.lemmas.Bool.{cases_lt}
+use Rattle.std.proofs.lemmas.List.{take_all}
 use Rattle.std.proofs.lemmas.List.Sums.{sum_by-cons}
 use Rattle.words.specs.Quorum.{majority_of}
 use Rattle.words.specs.declared.Message.{Message}
@@ -11,7 +13,7 @@ use Rattle.state.specs.declared.Bench.{Bench}
 use Rattle.state.specs.State.{State, view, fresh_replica, replica_of}
 use Rattle.replica.specs.Handlers.{is_idle}
 use Rattle.standing.specs.declared.Status.TheVariants.{Down, Idle, Waiting, Stuck}
-use Rattle.standing.specs.Status.{Statuses, status_number, statuses, downs, standings, standings_of, enough, enough_up, up_from}
+use Rattle.standing.specs.Status.{Statuses, status_number, statuses, downs, standings, standings_of, enough, up_at, enough_up, up_from}
 
 -- ---- 0 is down, 1 idle, 2 waiting, 3 stuck
 
@@ -52,15 +54,41 @@ downs-numbered refusal = refl
 
 -- ---- what the code finds
 
+-- those up among 1..n, place by place up to 7
+up_sum : State → ℕ → ℕ → ℕ
+up_sum s n p = cond (leb p n) (cond (replica_of s p).crashed 0 1) 0
+
+up-sum : (s : State) (n : ℕ) → n ≤ 7 → up_from s 1 n ≡ up_sum s n 1 + up_sum s n 2 + up_sum s n 3 + up_sum s n 4 + up_sum s n 5 + up_sum s n 6 + up_sum s n 7
+unfolding up_sum
+up-sum s zero h = omega arith
+up-sum s (suc zero) h = omega arith
+up-sum s (suc (suc zero)) h = omega arith
+up-sum s (suc (suc (suc zero))) h = omega arith
+up-sum s (suc (suc (suc (suc zero)))) h = omega arith
+up-sum s (suc (suc (suc (suc (suc zero))))) h = omega arith
+up-sum s (suc (suc (suc (suc (suc (suc zero)))))) h = omega arith
+up-sum s (suc (suc (suc (suc (suc (suc (suc zero))))))) h = omega arith
+up-sum s (suc (suc (suc (suc (suc (suc (suc (suc n)))))))) h = absurd (omega arith)
+
+enough-same : (b : Bench) (messages : List Message) (rows : List Row) → b.n ≤ 7 → enough (view b messages rows) ≡ enough_up b
+unfolding up_sum
+enough-same b messages rows h = ap (leb (majority_of b.n)) (up-sum (view b messages rows) b.n h)
+
+pub statuses-same : (b : Bench) (messages : List Message) (rows : List Row) → b.n ≤ 7 → statuses (view b messages rows) ≡ record { refusal = 0; of = standings_of b }
+unfolding statuses
+statuses-same b messages rows h = rw (enough-same b messages rows h)
+
+-- ---- the code counts them in the list of the replicas
+
 -- those up among the processes behind p, as many as are left
-abbrev up : Replica → Bool
+abbrev pub up : Replica → Bool
 up r = not r.crashed
 
 one-up : (crashed : Bool) (k : ℕ) → cond crashed 0 1 + k ≡ cond (not crashed) 1 0 + k
 one-up true k = refl
 one-up false k = refl
 
-up-same : (s : State) (p left : ℕ) → p + left ≤ length s.replicas → up_from s (suc p) left ≡ count_by up (take left (drop p s.replicas))
+pub up-same : (s : State) (p left : ℕ) → p + left ≤ length s.replicas → up_from s (suc p) left ≡ count_by up (take left (drop p s.replicas))
 up-same s p zero h = refl
 up-same s p (suc left) h =
     let r = get_or s.replicas p fresh_replica in
@@ -71,9 +99,24 @@ up-same s p (suc left) h =
     ∙ sym (sum_by-cons (λ x. cond (up x) 1 0) r (take left (drop (suc p) s.replicas)))
     ∙ sym (ap (λ rs. count_by up (take (suc left) rs)) (drop-cons s.replicas p fresh_replica (omega (arith, h))))
 
-enough-same : (b : Bench) (messages : List Message) (rows : List Row) → b.n ≤ 7 → length b.replicas ≡ 7 → enough (view b messages rows) ≡ enough_up b
-enough-same b messages rows h l = ap (leb (majority_of b.n)) (up-same (view b messages rows) 0 b.n (omega (arith, h, l)))
+-- one process of the N, and all seven where N is above 7
+up-one : (s : State) (n p : ℕ) → p ≤ n → cond (replica_of s p).crashed 0 1 ≡ up_sum s n p
+unfolding up_sum
+up-one s n p h = sym (ap (λ (t : Bool). cond t (cond (replica_of s p).crashed 0 1) 0) (le-leb p n h))
 
-pub statuses-same : (b : Bench) (messages : List Message) (rows : List Row) → b.n ≤ 7 → length b.replicas ≡ 7 → statuses (view b messages rows) ≡ record { refusal = 0; of = standings_of b }
-unfolding statuses
-statuses-same b messages rows h l = rw (enough-same b messages rows h l)
+up-all : (s : State) (n : ℕ) → 7 ≤ n → up_from s 1 7 ≡ up_sum s n 1 + up_sum s n 2 + up_sum s n 3 + up_sum s n 4 + up_sum s n 5 + up_sum s n 6 + up_sum s n 7
+up-all s n h =
+    let up = λ (p : ℕ) (k : p ≤ 7). up-one s n p (omega (arith, h, k)) in
+    omega (arith, up 1 (omega arith), up 2 (omega arith), up 3 (omega arith), up 4 (omega arith), up 5 (omega arith), up 6 (omega arith), up 7 (omega arith))
+
+pub counted-up : (b : Bench) → length b.replicas ≡ 7
+    → count_by up (take b.n b.replicas) ≡ up_at b 1 + up_at b 2 + up_at b 3 + up_at b 4 + up_at b 5 + up_at b 6 + up_at b 7
+unfolding up_sum
+counted-up b l =
+    let s = view b [] [] in
+    elim (cases_lt 7 b.n) [
+      | inl p ↦
+          ap (count_by up) (take_all b.n b.replicas (omega (arith, l, p)) ∙ sym (take_all 7 b.replicas (omega (arith, l)))) ∙ sym (up-same s 0 7 (omega (arith, l)))
+          ∙ up-all s b.n (omega (arith, p))
+      | inr p ↦ sym (up-same s 0 b.n (omega (arith, p, l))) ∙ up-sum s b.n p
+    ]

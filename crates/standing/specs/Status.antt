@@ -1,5 +1,5 @@
 -- The status of each process: document 01, "Status".
-use Rattle.std.specs.Prelude.{ℕ, Result, Ok, Err, zero, suc, ◌+◌, Bool, cond, not, List, [], ◌∷◌, map, leb, ltb, count_by, get_or, take, replicate}
+use Rattle.std.specs.Prelude.{ℕ, Result, Ok, Err, zero, suc, ◌+◌, ◌-◌, Bool, cond, List, [], ◌∷◌, map, leb, ltb, get_or, replicate}
 use Rattle.std.specs.List.{range_with_len}
 use Rattle.words.specs.declared.refusal.Refusal.{Refusal}
 use Rattle.words.specs.Refusals.{number}
@@ -54,8 +54,11 @@ told (Err e) = downs (number e)
 
 -- ---- the same of a bench, as the code finds it; `StatusLaws` says that it is the same
 
+abbrev pub up_at : Bench → ℕ → ℕ
+up_at b p = cond (leb p b.n) (cond (get_or b.replicas (p - 1) fresh_replica).crashed 0 1) 0
+
 abbrev pub enough_up : Bench → Bool
-enough_up b = leb (majority_of b.n) (count_by (λ (r : Replica). not r.crashed) (take b.n b.replicas))
+enough_up b = leb (majority_of b.n) (up_at b 1 + up_at b 2 + up_at b 3 + up_at b 4 + up_at b 5 + up_at b 6 + up_at b 7)
 
 -- places behind N read down
 abbrev pub standing_of : Replica → Bool → Bool → Status

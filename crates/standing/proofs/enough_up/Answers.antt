@@ -4,6 +4,7 @@ use Rattle.std.proofs.lemmas.Iterator.{YieldsList-from_slice, YieldsList-from_ta
 use Rattle.std.proofs.lemmas.Iterator.Consumers.{count_from_yields_List, YieldsList-from_filter, YieldsList-at}
 use Rattle.std.proofs.lemmas.List.Sums.{length-filter}
 use Rattle.replica.specs.declared.Replica.{Replica}
+use Rattle.standing.proofs.StatusLaws.{counted-up}
 use Rattle.standing.proofs.enough_up.Goals as goal
 
 pub returns : goal.returns
@@ -15,4 +16,4 @@ returns c =
     (YieldsList-from_filter _ is_up (YieldsList-at c.filter.ensures.source (YieldsList-from_take b.n (YieldsList-from_slice b.replicas (cc)) (cc)))
     c.filter.ensures.closure (λ x r q k. search (rules, tests))) in
     let up : c.count-up.result ≡ count_by is_up (take b.n b.replicas) = counted ∙ length-filter is_up (take b.n b.replicas) in
-    rw (c.majority.ensures, up)
+    rw (c.majority.ensures, up ∙ counted-up b (search rules))
