@@ -68,11 +68,11 @@ abbrev Right : Phase → Answer → Type 0
 Right phase a = Mild a.sends × Waited a.ended phase
 
 module _ (r : Replica) (n asked : ℕ) (from : Pid) (time : Time) (rid : Rid) (near : from.0 ≤ 7) where
-  query-right : (x : ℕ) → Right r.phase (query_received r from time rid x)
+  pub query-right : (x : ℕ) → Right r.phase (query_received r from time rid x)
   unfolding query_received query_rule
   query-right x = unless (Right r.phase) (eqb (query_refusal r from time rid x) 0) (query_refusal r from time rid x) r (query_rule r from time rid x) (near, tt) (tt, tt)
 
-  update-right : (x : ℕ) (pair : Pair) → Right r.phase (update_received r from time rid x pair)
+  pub update-right : (x : ℕ) (pair : Pair) → Right r.phase (update_received r from time rid x pair)
   unfolding update_received update_rule
   update-right x pair = unless (Right r.phase) (eqb (update_refusal r from time rid x pair) 0) (update_refusal r from time rid x pair) r (update_rule r from time rid x pair) (near, tt) (tt, tt)
 
@@ -89,7 +89,7 @@ module _ (r : Replica) (n asked : ℕ) (from : Pid) (time : Time) (rid : Rid) (n
       go true = response-counted number number (gathered_with gathered pair) gathered
       go false = (tt, tt)
 
-  response-right : (pair : Pair) → Right r.phase (response_received r n asked from time rid pair)
+  pub response-right : (pair : Pair) → Right r.phase (response_received r n asked from time rid pair)
   unfolding response_received response_rule
   response-right pair =
       unless (Right r.phase) (eqb (response_refusal r n asked from time rid pair) 0) (response_refusal r n asked from time rid pair) r (response_rule r n asked from time rid pair)
@@ -108,7 +108,7 @@ module _ (r : Replica) (n asked : ℕ) (from : Pid) (time : Time) (rid : Rid) (n
       go true = ack-counted number number sent sent
       go false = (tt, tt)
 
-  ack-right : Right r.phase (ack_received r n from time rid)
+  pub ack-right : Right r.phase (ack_received r n from time rid)
   unfolding ack_received ack_rule
   ack-right = unless (Right r.phase) (eqb (ack_refusal r n from time rid) 0) (ack_refusal r n from time rid) r (ack_rule r n from time rid) (ack-taken r.phase) (tt, tt)
 

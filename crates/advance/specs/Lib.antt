@@ -4,6 +4,7 @@ pub mod Advanced
 pub mod Parts
 -- Laws
 pub mod ListLaws
+pub mod PartLaws
 pub mod Good
 pub mod Steps
 pub mod Answers

@@ -1,15 +1,20 @@
 -- Laws of lists that a table holds in its first places, with empty places behind them.
-use Rattle.std.specs.Prelude.{◌≡◌, ℕ, suc, ◌-◌, ◌<◌, ◌≤◌, List, [], ◌∷◌, ◌++◌, length, set, take, drop, replicate}
+use Rattle.std.specs.Prelude.{◌≡◌, refl, ℕ, zero, suc, ◌-◌, ◌<◌, ◌≤◌, List, [], ◌∷◌, ◌++◌, length, get_or, set, take, drop, replicate}
 use Rattle.std.proofs.Common.{sym, ap, ◌∙◌, arith, append_assoc, length-append, length-set}
 use Rattle.std.proofs.Math.Seq.{take-append_seam, drop-append_seam, drop-append-add, set-append_seam}
 use Rattle.std.proofs.lemmas.List.{drop-replicate, set-append_left}
 use Rattle.tables.specs.Tables.{removed, laid_at}
-use Rattle.state.proofs.EveryLaws.{length_removed}
+use Rattle.state.proofs.EveryLaws.{length_removed, get_or-empty}
 
 module _ {A : Type 0} where
   -- the first places of a table of so many
   abbrev pub laid : ℕ → A → List A → List A
   laid most d xs = xs ++ replicate (most - length xs) d
+
+  pub get_or-laid : (n : ℕ) (d : A) (xs : List A) (i : ℕ) → get_or (xs ++ replicate n d) i d ≡ get_or xs i d
+  get_or-laid n d [] i = get_or-empty n i d
+  get_or-laid n d (x ∷ xs) zero = refl
+  get_or-laid n d (x ∷ xs) (suc i) = get_or-laid n d xs i
 
   -- more is laid behind what is there
   pub laid_more : (most : ℕ) (d : A) (xs ys : List A) → laid_at (length xs) ys (laid most d xs) ≡ laid most d (xs ++ ys)

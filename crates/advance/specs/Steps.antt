@@ -1,7 +1,9 @@
 -- A plan that is carried out on a state that is laid out in a bench and its two tables gives what `step` says: first for a refusal and for each
 -- kind of acceptance, by what the plan says; then event by event.
-use Rattle.std.specs.Prelude.{ℕ, ◌+◌, ◌-◌, ◌<◌, ◌≤◌, ◌≡◌, refl, Bool, true, false, cond, List, ◌++◌, eqb, length, set, Option, Some, None, Result, Ok, Err}
+use Rattle.std.specs.Prelude.{ℕ, ◌+◌, ◌-◌, ◌<◌, ◌≤◌, ◌≡◌, refl, Bool, true, false, cond, List, ◌++◌, eqb, length, set, replicate, Option, Some, None, Result, Ok, Err}
 use Rattle.std.proofs.Common.{arith, sym, ap, ◌∙◌, length-append, eqb-true}
+use Rattle.std.proofs.lemmas.List.{length-replicate}
+use Rattle.std.proofs.Math.Seq.{set_out}
 use Rattle.words.specs.declared.Message.{Message}
 use Rattle.words.specs.declared.Pid.{Pid}
 use Rattle.replica.specs.Answer.{Answer}
@@ -45,6 +47,10 @@ by_number s event number plan next accepts = go (eqb number 0) refl
     go : (u : Bool) → eqb number 0 ≡ u → Done (cond u (Ok plan) (Err number)) event s (record { refusal = number; state = cond u next s })
     go true e = let z : number ≡ 0 = eqb-true number 0 e in (z, accepts z)
     go false e = (refl, refl)
+
+-- nothing is written past the end
+pub past-rows : (s : State) → Good s → (row : Row) → set (laid_rows s) 1024 row ≡ laid_rows s
+past-rows s g row = set_out (laid_rows s) 1024 row (omega (arith, length-append s.rows (replicate (1024 - length s.rows) empty_row), length-replicate (1024 - length s.rows) empty_row, g.rows))
 
 -- ---- what is sent
 

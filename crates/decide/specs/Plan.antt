@@ -18,7 +18,7 @@ use Rattle.tables.specs.Tables.{empty_message, seek}
 use Rattle.state.specs.declared.Event.{Event}
 use Rattle.state.specs.declared.Event.TheVariants.{Read, Write, Deliver, Crash, Lose}
 use Rattle.state.specs.State.{State, replica_of, row_of}
-use Rattle.state.specs.Step.{message_of, read_row, write_row, completed, queried_row, check, full, invoke_refusal, deliver_refusal, crash_refusal, lose_refusal, heard}
+use Rattle.state.specs.Step.{message_of, read_row, write_row, completed, queried_row, check, full, invoke_refusal, found_refusal, deliver_refusal, crash_refusal, lose_refusal, heard}
 use Rattle.decide.specs.declared.Plan.{Plan}
 use Rattle.decide.specs.declared.View.{View}
 
@@ -94,7 +94,7 @@ invoke_plan s p x written =
     (accepted_plan s p None answer (Some (length s.rows, begun_row p x answer.replica.clock.0 written)))
 
 unfoldable pub deliver_plan : State → Option ℕ → Result Plan ℕ
-deliver_plan s None = Err (check (full s) 17 12)
+deliver_plan s None = Err (check (full s) 17 (found_refusal None))
 deliver_plan s (Some i) =
     let message = get_or s.flight i empty_message in
     let r = replica_of s message.to.0 in
@@ -109,7 +109,7 @@ crash_plan s p =
 
 -- a lost message changes no replica
 unfoldable pub lose_plan : State → Option ℕ → Result Plan ℕ
-lose_plan s None = Err (check (full s) 17 12)
+lose_plan s None = Err (check (full s) 17 (found_refusal None))
 lose_plan s (Some i) =
     settled (check (full s) 17 (lose_refusal s (get_or s.flight i empty_message))) (record { replica = None; taken = Some i; posted = None; row = None })
 

@@ -1,14 +1,13 @@
-// The plan of each event.
-ghost use Rattle.std.specs.Prelude.{◌≡◌, false};
+// The plan of each event, by what was gathered for it.
+ghost use Rattle.std.specs.Prelude.{◌≡◌, ◌≤◌, false};
 ghost use Rattle.replica.specs.Answer.{answer, answered};
-ghost use Rattle.tables.specs.Tables.{seek};
-ghost use Rattle.state.specs.State.{replica_of};
-ghost use Rattle.state.specs.Step.{full, heard};
-ghost use Rattle.decide.specs.Plan.{seen, numbered, accepted_plan, checked, begun, invoke_plan, deliver_plan, crash_plan, lose_plan, plan_of};
+ghost use Rattle.decide.specs.Checks.{full};
+ghost use Rattle.decide.specs.Plan.{seen, numbered, begun, plan_of};
+ghost use Rattle.decide.specs.PlanBy.{accepted_by, answer_to, invoke_by, deliver_by, crash_by, lose_by, plan_by};
 
 use crate::checks::is_over;
-use crate::{Plan, View, rows};
-use replica::{Handled, Replica};
+use crate::{Counters, Plan, View, gather, rows};
+use replica::{Handled, Replica, phases};
 use state::Event;
 use tables::Row;
 use words::refusal::Refusal;
@@ -23,15 +22,20 @@ fn begin(r: Replica, p: Pid, x: u8, number: u16, written: Option<i64>) -> Result
     }
 }
 
-impl View<'_> {
-    // Process p's replica; a fresh one where there is none.
-    fn replica(self, p: Pid) -> Replica
-        ensures { result ≡ replica_of (seen self.entry) p.0 }
-    {
-        let place = usize::from(p.0.saturating_sub(1));
-        self.bench.replicas.get(place).copied().unwrap_or_default()
+// What the recipient answers to a message, of n processes, where it asks for a register.
+fn heard(n: u8, asked: u8, r: Replica, message: Message) -> Result<Handled, Refusal>
+    ensures { answer r result ≡ answer_to n asked r message }
+{
+    let sender = message.sender();
+    match message.body {
+        Body::Query(x) => r.query_received(sender, x),
+        Body::Response(pair) => r.response_received(n, asked, sender, pair),
+        Body::Update(x, pair) => r.update_received(sender, x, pair),
+        Body::Ack => r.ack_received(n, sender),
     }
+}
 
+impl Counters {
     // What p's handler says is carried out, the message that it answers is taken off, if it answers one, and a row is written.
     fn accept(
         self,
@@ -40,7 +44,8 @@ impl View<'_> {
         handled: Handled,
         row: Option<(usize, Row)>,
     ) -> Plan
-        ensures { result ≡ accepted_plan (seen self.entry) p taken (answered handled) row }
+        requires { self.sent ≤ 84000 }
+        ensures { result ≡ accepted_by self p taken (answered handled) row }
     {
         Plan {
             replica: Some((p, handled.replica)),
@@ -51,78 +56,66 @@ impl View<'_> {
     }
 
     // An operation begins: a read, or the write of a value.
-    #[tactic(auto, unfolding(crate::specs::Plan::invoke_plan))]
-    fn invoke_plan(self, p: Pid, x: u8, written: Option<i64>) -> Result<Plan, Refusal>
-        requires { full (seen self) ≡ false }
-        ensures { numbered result ≡ invoke_plan (seen self.entry) p x written }
+    #[tactic(auto, unfolding(crate::specs::PlanBy::invoke_by))]
+    fn invoke_plan(self, p: Pid, x: u8, written: Option<i64>, r: Replica) -> Result<Plan, Refusal>
+        requires { (self.sent ≤ 84000) × (self.rows ≤ 1024) × (full self ≡ false) }
+        ensures { numbered result ≡ invoke_by self p x written r }
     {
-        let r = self.replica(p);
         self.may_invoke(p, x, r)?;
-        let number = self.rows.len() as u16 + 1;
+        let number = self.rows as u16 + 1;
         let handled = begin(r, p, x, number, written)?;
         let row = rows::begun_row(p, x, handled.replica.clock, written);
-        Ok(self.accept(p, None, handled, Some((self.rows.len(), row))))
+        Ok(self.accept(p, None, handled, Some((self.rows, row))))
     }
 
-    // What the recipient answers to a message.
-    fn heard(self, r: Replica, message: Message) -> Result<Handled, Refusal>
-        ensures { answer r result ≡ heard (seen self.entry) r message }
+    #[tactic(auto, unfolding(crate::specs::PlanBy::deliver_by))]
+    fn deliver_plan(
+        self,
+        found: Option<usize>,
+        message: Message,
+        r: Replica,
+        row: Row,
+    ) -> Result<Plan, Refusal>
+        requires { (self.sent ≤ 84000) × (full self ≡ false) }
+        ensures { numbered result ≡ deliver_by self found message r row }
     {
-        let asked = self.asked_register(r.phase);
-        let sender = message.sender();
-        match message.body {
-            Body::Query(x) => r.query_received(sender, x),
-            Body::Response(pair) => r.response_received(self.bench.n, asked, sender, pair),
-            Body::Update(x, pair) => r.update_received(sender, x, pair),
-            Body::Ack => r.ack_received(self.bench.n, sender),
-        }
-    }
-
-    #[tactic(auto, using(crate::proofs::FoundLaws::found_within), unfolding(crate::specs::Plan::deliver_plan))]
-    fn deliver_plan(self, k: u32) -> Result<Plan, Refusal>
-        requires { full (seen self) ≡ false }
-        ensures { numbered result ≡ deliver_plan (seen self.entry) (seek k 0 (seen self.entry).flight) }
-    {
-        let Some(at) = tables::find(self.flight, self.flight.len(), k) else {
+        let Some(at) = found else {
             return Err(Refusal::NoMessage);
         };
-        let message = self.flight[at];
-        let r = self.replica(message.to);
         if r.crashed {
             return Err(Refusal::RecipientCrashed);
         }
-        let answer = self.heard(r, message);
-        let left = self.flight.len().saturating_sub(1);
-        if is_over(left + usize::from(self.count_of(answer))) {
+        let asked = rows::asked_register(r.phase, row);
+        let answer = heard(self.n, asked, r, message);
+        let left = self.flight.saturating_sub(1);
+        if is_over(left, self.count_of(answer)) {
             return Err(Refusal::NoRoom);
         }
         let handled = answer?;
-        let row = self.written_by(r.phase, handled.ended);
+        let row = rows::written_by(row, r.phase, handled.ended);
         Ok(self.accept(message.to, Some(at), handled, row))
     }
 
-    #[tactic(auto, unfolding(crate::specs::Plan::crash_plan))]
-    fn crash_plan(self, p: Pid) -> Result<Plan, Refusal>
-        requires { full (seen self) ≡ false }
-        ensures { numbered result ≡ crash_plan (seen self.entry) p }
+    #[tactic(auto, unfolding(crate::specs::PlanBy::crash_by))]
+    fn crash_plan(self, p: Pid, r: Replica) -> Result<Plan, Refusal>
+        requires { (self.sent ≤ 84000) × (full self ≡ false) }
+        ensures { numbered result ≡ crash_by self p r }
     {
-        let r = self.replica(p);
         self.may_crash(p, r)?;
         let handled = r.crash()?;
         Ok(self.accept(p, None, handled, None))
     }
 
-    // A lost message changes no replica.
-    #[tactic(auto, using(crate::proofs::FoundLaws::found_within), unfolding(crate::specs::Plan::lose_plan))]
-    fn lose_plan(self, k: u32) -> Result<Plan, Refusal>
-        requires { full (seen self) ≡ false }
-        ensures { numbered result ≡ lose_plan (seen self.entry) (seek k 0 (seen self.entry).flight) }
+    // A lost message changes no replica; `down`: one of its two ends has crashed.
+    #[tactic(auto, unfolding(crate::specs::PlanBy::lose_by))]
+    fn lose_plan(self, found: Option<usize>, down: bool) -> Result<Plan, Refusal>
+        requires { full self ≡ false }
+        ensures { numbered result ≡ lose_by self found down }
     {
-        let Some(at) = tables::find(self.flight, self.flight.len(), k) else {
+        let Some(at) = found else {
             return Err(Refusal::NoMessage);
         };
-        let message = self.flight[at];
-        if !self.replica(message.from).crashed & !self.replica(message.to).crashed {
+        if !down {
             return Err(Refusal::BothUp);
         }
         Ok(Plan {
@@ -132,20 +125,45 @@ impl View<'_> {
             row: None,
         })
     }
+}
 
-    #[tactic(auto, using(crate::proofs::FullLaws::full_first), unfolding(crate::specs::Plan::plan_of))]
+// The event's plan, by the counts, the message that was found for it and its place, whether one of that message's ends is down, the replica that
+// takes its step, and the row that this points to.
+#[tactic(auto, using(crate::proofs::FullLaws::full_by), unfolding(crate::specs::PlanBy::plan_by))]
+pub fn plan_of(
+    c: Counters,
+    event: Event,
+    found: Option<usize>,
+    message: Message,
+    down: bool,
+    r: Replica,
+    row: Row,
+) -> Result<Plan, Refusal>
+    requires { (c.sent ≤ 84000) × (c.rows ≤ 1024) }
+    ensures { numbered result ≡ plan_by c event found message down r row }
+{
+    if c.is_full() {
+        return Err(Refusal::Full);
+    }
+    match event {
+        Event::Read(p, x) => c.invoke_plan(p, x, None, r),
+        Event::Write(p, x, value) => c.invoke_plan(p, x, Some(value), r),
+        Event::Deliver(_) => c.deliver_plan(found, message, r, row),
+        Event::Crash(p) => c.crash_plan(p, r),
+        Event::Lose(_) => c.lose_plan(found, down),
+    }
+}
+
+impl View<'_> {
+    // What the event needs is looked up, and its plan made by that.
+    #[tactic(auto, using(crate::proofs::GatherLaws::gathered_plan))]
     pub fn plan_of(self, event: Event) -> Result<Plan, Refusal>
         ensures { numbered result ≡ plan_of (seen self.entry) event }
     {
-        if self.is_full() {
-            return Err(Refusal::Full);
-        }
-        match event {
-            Event::Read(p, x) => self.invoke_plan(p, x, None),
-            Event::Write(p, x, value) => self.invoke_plan(p, x, Some(value)),
-            Event::Deliver(k) => self.deliver_plan(k),
-            Event::Crash(p) => self.crash_plan(p),
-            Event::Lose(k) => self.lose_plan(k),
-        }
+        let (found, message) = self.sought(event);
+        let down = self.is_down(message);
+        let r = self.replica(gather::process_of(event, message));
+        let row = self.row(phases::pointed_by(r.phase));
+        plan_of(self.counters(), event, found, message, down, r, row)
     }
 }

@@ -11,8 +11,20 @@ use words::{Message, Pid};
 
 mod checks;
 pub mod events;
+mod gather;
 mod rows;
 mod sends;
+
+// The counts that the checks look at.
+#[derive(Clone, Copy)]
+pub struct Counters {
+    pub n: u8,
+    pub m: u8,
+    pub accepted: u16,
+    pub sent: u32,
+    pub flight: usize,
+    pub rows: usize,
+}
 
 // The state that is looked at: the counts and the replicas, the messages in flight, and the rows of the history. It has numbers left for one more
 // event's messages, and for one more row.

@@ -1,11 +1,10 @@
 // The rows of the history: how one begins, and what the end of a phase makes of it.
 ghost use Rattle.std.specs.Prelude.{◌≡◌, ◌-◌};
 ghost use Rattle.replica.specs.Numbers.{pointed};
-ghost use Rattle.state.specs.State.{row_of};
-ghost use Rattle.state.specs.Step.{completed, queried_row, asked_register};
-ghost use Rattle.decide.specs.Plan.{seen, begun_row, written_by};
+ghost use Rattle.state.specs.Step.{completed, queried_row};
+ghost use Rattle.decide.specs.Plan.{begun_row};
+ghost use Rattle.decide.specs.PlanBy.{register_asked, row_by};
 
-use crate::View;
 use replica::{Ended, Phase, phases};
 use tables::{Kind, Replied, Row};
 use words::{Pair, Pid, Stamp, Time};
@@ -70,42 +69,31 @@ fn completed_row(row: Row, time: Time, pair: Pair, who: u8) -> Row
     }
 }
 
+// The register that a querying replica asks for, which its row has. Any other asks for none, and 1 stands in.
+pub(crate) fn asked_register(phase: Phase, row: Row) -> u8
+    ensures { result ≡ register_asked phase row }
+{
+    match phase {
+        Phase::Querying(_, _) => row.register,
+        _ => 1,
+    }
+}
+
 // Rows are counted from 1.
-fn place_of(number: u16) -> usize
+pub(crate) fn place_of(number: u16) -> usize
     ensures { result ≡ number - 1 }
 {
     usize::from(number.saturating_sub(1))
 }
 
-impl View<'_> {
-    // Row number i, counted from 1; an empty one where there is none.
-    fn row(self, number: u16) -> Row
-        ensures { result ≡ row_of (seen self.entry) number }
-    {
-        self.rows.get(place_of(number)).copied().unwrap_or_default()
-    }
-
-    // The register that a querying replica asks for, which its row has. Any other asks for none, and 1 stands in.
-    pub(crate) fn asked_register(self, phase: Phase) -> u8
-        ensures { result ≡ asked_register (seen self.entry) phase }
-    {
-        match phase {
-            Phase::Querying(number, _) => self.row(number).register,
-            _ => 1,
-        }
-    }
-
-    // The row that the end of a phase writes: the one that the replica pointed to.
-    pub(crate) fn written_by(self, phase: Phase, ended: Ended) -> Option<(usize, Row)>
-        ensures { result ≡ written_by (seen self.entry) (pointed phase) ended }
-    {
-        let number = phases::pointed_by(phase);
-        let row = self.row(number);
-        let ended = match ended {
-            Ended::Pending => return None,
-            Ended::Query(who) => queried_row(row, who),
-            Ended::At(time, pair, who) => completed_row(row, time, pair, who),
-        };
-        Some((place_of(number), ended))
-    }
+// The row that the end of a phase writes: the one that the replica pointed to.
+pub(crate) fn written_by(row: Row, phase: Phase, ended: Ended) -> Option<(usize, Row)>
+    ensures { result ≡ row_by row (pointed phase) ended }
+{
+    let next = match ended {
+        Ended::Pending => return None,
+        Ended::Query(who) => queried_row(row, who),
+        Ended::At(time, pair, who) => completed_row(row, time, pair, who),
+    };
+    Some((place_of(phases::pointed_by(phase)), next))
 }

@@ -1,12 +1,12 @@
 // What a handler sends, as messages: how many, and the first of them.
-ghost use Rattle.std.specs.Prelude.{◌≡◌};
+ghost use Rattle.std.specs.Prelude.{◌≡◌, ◌≤◌};
 ghost use Rattle.replica.specs.Answer.{answer as answer_of};
 ghost use Rattle.replica.specs.Numbers.{sent_by};
 ghost use Rattle.replica.specs.declared.Replica.{Replica};
 ghost use Rattle.state.specs.Step.{message_of};
-ghost use Rattle.decide.specs.Plan.{seen, posted_by};
+ghost use Rattle.decide.specs.PlanBy.{first_of};
 
-use crate::View;
+use crate::Counters;
 use replica::{Handled, Letter, Sends};
 use words::refusal::Refusal;
 use words::{Message, Pid};
@@ -24,16 +24,16 @@ fn message_of(number: u32, from: Pid, to: Pid, letter: Letter) -> Message
     }
 }
 
-impl View<'_> {
+impl Counters {
     // How many messages an answer sends; a refusal sends none.
     pub(crate) fn count_of(self, answer: Result<Handled, Refusal>) -> u8
-        ensures { (r : Replica) → result ≡ sent_by (seen self.entry).n (answer_of r answer).sends }
+        ensures { (r : Replica) → result ≡ sent_by self.n (answer_of r answer).sends }
     {
         match answer {
             Ok(handled) => match handled.sends {
                 Sends::Nothing => 0,
                 Sends::Reply(_, _) => 1,
-                Sends::Broadcast(_) => self.bench.n,
+                Sends::Broadcast(_) => self.n,
             },
             Err(_) => 0,
         }
@@ -41,15 +41,14 @@ impl View<'_> {
 
     // The first message, and how many there are.
     pub(crate) fn posted_by(self, from: Pid, sends: Sends) -> Option<(Message, u8)>
-        ensures { result ≡ posted_by (seen self.entry) from sends }
+        requires { self.sent ≤ 84000 }
+        ensures { result ≡ first_of self from sends }
     {
-        let number = self.bench.sent + 1;
+        let number = self.sent + 1;
         match sends {
             Sends::Nothing => None,
             Sends::Reply(to, letter) => Some((message_of(number, from, to, letter), 1)),
-            Sends::Broadcast(letter) => {
-                Some((message_of(number, from, Pid(1), letter), self.bench.n))
-            }
+            Sends::Broadcast(letter) => Some((message_of(number, from, Pid(1), letter), self.n)),
         }
     }
 }
