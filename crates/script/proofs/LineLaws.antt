@@ -7,6 +7,7 @@ use Rattle.std.proofs.lemmas.Bool.{ltb-false}
 use Rattle.std.proofs.lemmas.Grind.{common_steps}
 use Rattle.std.proofs.lemmas.List.Recursion.{is_position_or_len}
 use Rattle.script.specs.Lines.{before, behind, longer, newline, lines, is_blank, goes_on, words, word, past_word, past_blanks}
+pub use Rattle.script.specs.ScanLaws.{at-end}
 
 -- ---- lines
 
@@ -134,9 +135,6 @@ drop-blanks (b ∷ rest) = go (is_blank b) (drop-blanks rest)
 
 take-all : (text : List ℕ) (n : ℕ) → length text ≤ n → take n text ≡ text
 take-all text n l = search (arith, common_steps)
-
-pub at-end : (text : List ℕ) (n : ℕ) → length text ≤ n → drop n text ≡ []
-at-end text n l = search (arith, common_steps)
 
 found-is : (n most i : ℕ) → cond (ltb n most) (Some n) None ≡ Some i → n ≡ i
 found-is n most i = go (ltb n most)
