@@ -1,11 +1,12 @@
 -- What rows come to: of two lists one after another it is the sum, so that rows can be counted one after another; and how large it can be.
 use Rattle.std.specs.Prelude.{ℕ, zero, suc, ◌+◌, ◌-◌, ◌*◌, ◌<◌, min, max, ◌≡◌, refl, Bool, true, false, cond, ◌&&◌, List, [], ◌∷◌, ◌++◌, length, get_or, take}
-use Rattle.std.proofs.Common.{sym, ap, subst, ◌∙◌, add-one, arith, length-append, take-suc}
+use Rattle.std.proofs.Common.{sym, ap, subst, ◌∙◌, add-one, arith, rules, length-append, take-suc}
 use Rattle.tables.specs.declared.Row.{Row}
 use Rattle.tables.specs.Tables.{empty_row}
 use Rattle.figures.specs.declared.Operations.{Operations}
 use Rattle.figures.specs.declared.Waits.{Waits}
 use Rattle.figures.specs.declared.History.{History}
+use Rattle.figures.specs.contracts.HistoryDefault.TheImpl.{is_default-value}
 use Rattle.figures.specs.Figures.{count_if, is_read_row, is_write_row, is_complete, operations_of, waits_of, sum_of, lesser, least_of, greatest_of, figures_of, history_of}
 use Rattle.figures.specs.Figures.{plus_operations, plus_waits, plus_history}
 use Rattle.figures.specs.Parts.{most_wait, Few, HistoryRoom}
@@ -79,6 +80,12 @@ history-append xs ys =
   where
     of : Operations → Operations → Waits → History
     of reads writes waits = record { reads = reads; writes = writes; waits = waits }
+
+-- ---- no row
+
+-- what `History::default` gives
+pub default-none : (h : History) → is_default-value.it h → h ≡ history_of []
+default-none h default = search rules
 
 -- ---- one row after another
 

@@ -1,6 +1,6 @@
 -- What one row comes to, and what tests of sums say.
-use Rattle.std.specs.Prelude.{ℕ, zero, suc, ◌+◌, ◌-◌, ◌≤◌, ◌<◌, ◌^◌, min, max, ◌≡◌, refl, Bool, true, false, cond, ◌&&◌, [], ◌∷◌, length, get_or}
-use Rattle.std.proofs.Common.{sym, ap, subst, ◌∙◌, arith, get_or-set_same, ltb-true}
+use Rattle.std.specs.Prelude.{ℕ, zero, suc, ◌+◌, ◌-◌, ◌≤◌, ◌<◌, ◌^◌, min, max, ◌≡◌, refl, Bool, true, false, cond, ◌&&◌, List, [], ◌∷◌, leb, length, get_or}
+use Rattle.std.proofs.Common.{sym, ap, subst, ◌∙◌, arith, get_or-set_same, leb-true, leb-false, lt-ltb, le-ltb, ltb-true, eq-eqb, ne_eqb}
 use Rattle.std.proofs.lemmas.Bool.{false≢true}
 use Rattle.tables.specs.declared.Row.{Row}
 use Rattle.figures.specs.declared.Operations.{Operations}
@@ -9,9 +9,34 @@ use Rattle.figures.specs.declared.History.{History}
 use Rattle.figures.specs.declared.Traffic.{Traffic}
 use Rattle.figures.specs.declared.Entry.{Entry}
 use Rattle.figures.specs.declared.Sheet.{Sheet}
+use Rattle.figures.specs.declared.Added.{Added}
 use Rattle.figures.specs.Figures.{one, is_read_row, is_write_row, is_complete, operations_of, in64, lesser, figures_of, history_of}
-use Rattle.figures.specs.Figures.{plus_operations, plus_waits, plus_history, plus_traffic, operations_fit, waits_fit, history_fits, traffic_fits, entered, sheet_fits}
-use Rattle.figures.specs.Parts.{one_operation, one_wait, most_wait, FewOperations, FewWaits, Few, OperationsRoom, WaitsRoom, HistoryRoom, TrafficRoom, SheetRoom}
+use Rattle.figures.specs.Figures.{plus_operations, plus_waits, plus_history, plus_traffic, operations_fit, waits_fit, history_fits, traffic_fits, entered, sheet_fits, added_or28}
+use Rattle.figures.specs.Parts.{one_operation, one_wait, most_wait, FewOperations, FewWaits, Few, OperationsRoom, WaitsRoom, HistoryRoom, TrafficRoom, SheetRoom, file_number}
+
+-- ---- what is made of parts that are what they are to be
+
+pub both-are : {a b x y : Bool} → a ≡ x → b ≡ y → (a && b) ≡ (x && y)
+both-are e f = rw (e, f) refl
+
+pub operations-are : {a b x y : ℕ} → a ≡ x → b ≡ y → ◌≡◌ {A = Operations} (record { begun = a; completed = b }) (record { begun = x; completed = y })
+operations-are e f = rw (e, f) refl
+
+pub waits-are : {count sum a b x y : ℕ} → a ≡ x → b ≡ y
+    → ◌≡◌ {A = Waits} (record { count = count; sum = sum; least = a; greatest = b }) (record { count = count; sum = sum; least = x; greatest = y })
+waits-are e f = rw (e, f) refl
+
+pub history-is : {a b x y : Operations} {c z : Waits} → a ≡ x → b ≡ y → c ≡ z
+    → ◌≡◌ {A = History} (record { reads = a; writes = b; waits = c }) (record { reads = x; writes = y; waits = z })
+history-is e f g = rw (e, f, g) refl
+
+pub entry-is : {a x : ℕ} {history : History} {b y : Traffic} → a ≡ x → b ≡ y
+    → ◌≡◌ {A = Entry} (record { refusal = a; history = history; traffic = b }) (record { refusal = x; history = history; traffic = y })
+entry-is e f = rw (e, f) refl
+
+pub sheet-is : {schedules : ℕ} {a x : List ℕ} {b y : History} {c z : Traffic} → a ≡ x → b ≡ y → c ≡ z
+    → ◌≡◌ {A = Sheet} (record { schedules = schedules; files = a; history = b; traffic = c }) (record { schedules = schedules; files = x; history = y; traffic = z })
+sheet-is e f g = rw (e, f, g) refl
 
 -- ---- one row
 
@@ -77,8 +102,12 @@ row-few row reads writes waits e f g l =
 
 -- ---- tests
 
-pub both-are : {a b x y : Bool} → a ≡ x → b ≡ y → (a && b) ≡ (x && y)
-both-are e f = rw (e, f) refl
+pub fits-is : (a b : ℕ) → a ≤ 18446744073709551615 → leb b (18446744073709551615 - a) ≡ in64 (a + b)
+fits-is a b l = go (leb b (18446744073709551615 - a)) refl
+  where
+    go : (t : Bool) → leb b (18446744073709551615 - a) ≡ t → t ≡ in64 (a + b)
+    go true e = let h = leb-true b (18446744073709551615 - a) e in sym (lt-ltb (a + b) (2 ^ 64) (omega arith))
+    go false e = let h = leb-false b (18446744073709551615 - a) e in sym (le-ltb (a + b) (2 ^ 64) (omega arith))
 
 pub no-others : (some least others other : ℕ) → (some ≡ 0 → ⊥) → others ≡ 0 → least ≡ lesser some least others other
 no-others zero least others other n e = absurd (n refl)
@@ -106,6 +135,11 @@ module _ (sheet : Sheet) (e : Entry) (number : e.refusal < length sheet.files) w
   tested-is =
       ap (λ (n : ℕ). in64 (sheet.schedules + 1) && in64 n && history_fits (plus_history sheet.history e.history) && traffic_fits (plus_traffic sheet.traffic e.traffic))
       (sym under-number)
+
+  pub sheet-fits-is : (a b c d : Bool) → a ≡ in64 (sheet.schedules + 1) → b ≡ in64 (get_or sheet.files e.refusal 0 + 1)
+      → c ≡ history_fits (plus_history sheet.history e.history) → d ≡ traffic_fits (plus_traffic sheet.traffic e.traffic)
+      → (a && b && c && d) ≡ sheet_fits e.refusal (entered sheet e)
+  sheet-fits-is a b c d ea eb ec ed = rw (ea, eb, ec, ed) tested-is
 
   within : (n : ℕ) → in64 n ≡ true → n < 2 ^ 64
   within n h = ltb-true n (2 ^ 64) h
@@ -156,3 +190,19 @@ module _ (sheet : Sheet) (e : Entry) (number : e.refusal < length sheet.files) w
         history = history-room sheet.history e.history y;
         traffic = traffic-room sheet.traffic e.traffic z;
       }
+
+-- ---- the reply
+
+pub fitted : (sheet : Sheet) (e : Entry) (s : Sheet) → sheet_fits e.refusal (entered sheet e) ≡ true → s ≡ entered sheet e
+    → ◌≡◌ {A = Added} (record { refusal = 0; sheet = s }) (added_or28 sheet e)
+fitted sheet e s h f = rw (h, f) refl
+
+pub passed : (sheet : Sheet) (e : Entry) → sheet_fits e.refusal (entered sheet e) ≡ false
+    → ◌≡◌ {A = Added} (record { refusal = 28; sheet = sheet }) (added_or28 sheet e)
+passed sheet e h = rw h refl
+
+pub own-number : (refusal n : ℕ) → n ≡ 0 → refusal ≡ file_number refusal n
+own-number refusal n e = rw (eq-eqb n 0 e) refl
+
+pub other-number : (refusal n : ℕ) → (n ≡ 0 → ⊥) → 0 ≡ file_number refusal n
+other-number refusal n h = rw (ne_eqb n 0 h) refl

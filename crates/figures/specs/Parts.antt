@@ -1,7 +1,8 @@
 -- What the functions inside promise and ask: what one row comes to, and sums that stay within 64 bits.
-use Rattle.std.specs.Prelude.{ℕ, ◌+◌, ◌≤◌, ◌<◌, ◌^◌, Bool, cond, ◌&&◌, [], ◌∷◌, get_or}
+use Rattle.std.specs.Prelude.{ℕ, ◌+◌, ◌≤◌, ◌<◌, ◌^◌, Bool, cond, ◌&&◌, [], ◌∷◌, eqb, get_or}
 use Rattle.words.specs.Refusals.{number}
 use Rattle.state.specs.declared.Bench.{Bench}
+use Rattle.state.specs.Stepped.{Stepped}
 use Rattle.figures.specs.declared.Entry.{Entry}
 use Rattle.figures.specs.declared.Sheet.{Sheet}
 use Rattle.figures.specs.declared.Operations.{Operations}
@@ -75,3 +76,11 @@ run_entry b history = record { refusal = 0; history = history; traffic = bench_t
 
 abbrev pub refused_entry : ℕ → Entry
 refused_entry number = record { refusal = number; history = history_of []; traffic = no_traffic }
+
+-- ---- of either, from the number and the bench that are left. A file that starts none leaves one of 0 processes
+
+abbrev pub file_number : ℕ → ℕ → ℕ
+file_number refusal n = cond (eqb n 0) refusal 0
+
+abbrev pub entry_of : Stepped → History → Entry
+entry_of ran history = record { refusal = file_number ran.refusal ran.bench.n; history = history; traffic = bench_traffic ran.bench }

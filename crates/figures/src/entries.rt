@@ -1,6 +1,6 @@
 // What one schedule adds.
 ghost use Rattle.std.specs.Prelude.{◌≡◌};
-ghost use Rattle.figures.specs.Parts.{bench_traffic, run_entry, refused_entry};
+ghost use Rattle.figures.specs.Parts.{file_number, bench_traffic, entry_of, run_entry, refused_entry};
 
 use crate::{Entry, History, Traffic};
 use state::Bench;
@@ -37,5 +37,25 @@ impl Entry {
             history: History::default(),
             traffic: Traffic::default(),
         }
+    }
+}
+
+// A file that starts no bench leaves one of 0 processes, and the number is the file's; else it is that of an event, and does not count here.
+fn file_number(refusal: u8, n: u8) -> u8
+    ensures { result ≡ file_number refusal n }
+{
+    if n == 0 {
+        return refusal;
+    }
+    0
+}
+
+// Of either, by the number and the bench that are left and what was counted of the rows.
+pub fn entry_of(refusal: u8, bench: Bench, history: History) -> Entry
+    ensures { result ≡ entry_of (record { refusal = refusal; bench = bench }) history }
+{
+    Entry {
+        refusal: file_number(refusal, bench.n),
+        ..Entry::of_run(bench, history)
     }
 }

@@ -8,6 +8,7 @@ use Rattle.std.proofs.lemmas.Bool.{ltb-false}
 use Rattle.std.proofs.lemmas.Grind.{common_steps}
 use Rattle.std.proofs.lemmas.List.Recursion.{is_position_or_len}
 use Rattle.script.specs.Lines.{before, behind, longer, newline, lines, is_blank, goes_on, words, word, past_word, past_blanks}
+pub use Rattle.script.specs.ScanLaws.{at-end}
 
 -- ---- lines
 
@@ -136,9 +137,6 @@ drop-blanks (b ∷ rest) = go (is_blank b) (drop-blanks rest)
 take-all : (text : List ℕ) (n : ℕ) → length text ≤ n → take n text ≡ text
 take-all text n l = search (arith, common_steps)
 
-pub at-end : (text : List ℕ) (n : ℕ) → length text ≤ n → drop n text ≡ []
-at-end text n l = search (arith, common_steps)
-
 found-is : (n most i : ℕ) → cond (ltb n most) (Some n) None ≡ Some i → n ≡ i
 found-is n most i = go (ltb n most)
   where
@@ -219,21 +217,27 @@ module _ (line : List ℕ) where
       ∙ ap words_from (sym (drop-blanks line) ∙ at-end line (position_or_len (λ b. not (is_blank b)) line) (none-is (position_or_len (λ b. not (is_blank b)) line) (length line) none))
 
   -- a word starts behind the blanks
+  module _ (start end : ℕ) (found : position (λ b. not (is_blank b)) line ≡ Some start) (e : end ≡ unwrap_or (position is_blank (drop start line)) (length (drop start line))) where
+    rest-is : drop start line ≡ past_blanks line
+    rest-is = ap (λ n. drop n line) (sym (found-is (position_or_len (λ b. not (is_blank b)) line) (length line) start found)) ∙ drop-blanks line
+
+    long : end ≡ length (word (drop start line))
+    long =
+        e ∙ or-all (position_or_len is_blank (drop start line)) (length (drop start line)) (omega (arith, word-length (drop start line), word-within (drop start line)))
+        ∙ sym (word-length (drop start line))
+
+    behind-word : drop end (drop start line) ≡ past_word (drop start line)
+    behind-word = ap (λ n. drop n (drop start line)) long ∙ drop-word (drop start line)
+
+    pub next-behind : drop end (drop start line) ≡ past_word (past_blanks line)
+    next-behind = behind-word ∙ ap past_word rest-is
+
   pub next-word : (start end : ℕ) → position (λ b. not (is_blank b)) line ≡ Some start → start < length line → end ≡ unwrap_or (position is_blank (drop start line)) (length (drop start line))
       → words line ≡ take end (drop start line) ∷ words (drop end (drop start line))
   next-word start end found l e =
-      words-front line ∙ ap words_from (sym rest-is) ∙ some-from rest (omega (arith, length-drop start line, l))
-      ∙ ap (λ w. w ∷ words (past_word rest)) (sym (ap (λ n. take n rest) long ∙ take-word rest))
-      ∙ ap (λ r. take end rest ∷ words r) (sym (ap (λ n. drop n rest) long ∙ drop-word rest))
-    where
-      rest : List ℕ
-      rest = drop start line
-
-      rest-is : rest ≡ past_blanks line
-      rest-is = ap (λ n. drop n line) (sym (found-is (position_or_len (λ b. not (is_blank b)) line) (length line) start found)) ∙ drop-blanks line
-
-      long : end ≡ length (word rest)
-      long = e ∙ or-all (position_or_len is_blank rest) (length rest) (omega (arith, word-length rest, word-within rest)) ∙ sym (word-length rest)
+      words-front line ∙ ap words_from (sym (rest-is start end found e)) ∙ some-from (drop start line) (omega (arith, length-drop start line, l))
+      ∙ ap (λ w. w ∷ words (past_word (drop start line))) (sym (ap (λ n. take n (drop start line)) (long start end found e) ∙ take-word (drop start line)))
+      ∙ ap (λ r. take end (drop start line) ∷ words r) (sym (behind-word start end found e))
 
   pub word_inside : (start end : ℕ) → end ≡ unwrap_or (position is_blank (drop start line)) (length (drop start line)) → end ≤ length (drop start line)
   word_inside start end e = omega (arith, e ∙ or-all (position_or_len is_blank (drop start line)) (length (drop start line)) within, within)

@@ -4,4 +4,6 @@ pub mod Meaning
 pub mod Numbers
 pub mod Places
 -- Laws
+pub mod FigureLaws
 pub mod NumberLaws
+pub mod ScanLaws

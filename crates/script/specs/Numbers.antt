@@ -28,6 +28,10 @@ abbrev pub value : ℕ → List ℕ → ℕ
 value n [] = n
 value n (b ∷ rest) = value (10 * n + (b - 48)) rest
 
+-- what is past every field is counted as one number
+abbrev pub capped : ℕ → ℕ
+capped n = cond (leb n 9223372036854775808) n 9223372036854775809
+
 -- a number of at most so much
 unfoldable pub figure_of : ℕ → List ℕ → Result ℕ Fault
 figure_of most w = cond (is_number w) (cond (leb (value 0 w) most) (Ok (value 0 w)) (Err TooLarge)) (Err NotANumber)

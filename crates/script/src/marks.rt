@@ -1,8 +1,17 @@
 // A text as lines, and a line as words.
-ghost use Rattle.std.specs.Prelude.{◌≡◌, ◌==◌, not};
+ghost use Rattle.std.specs.Prelude.{◌≡◌, ◌==◌, not, IfSome};
 ghost use Rattle.std.specs.Iterator.{YieldsFirstRef, item_count};
 ghost use Rattle.std.specs.List.{position};
-ghost use Rattle.script.specs.Lines.{before, behind, is_blank, lines, words};
+ghost use Rattle.script.specs.Lines.{
+  before,
+  behind,
+  newline,
+  lines,
+  is_blank,
+  words,
+  past_word,
+  past_blanks,
+};
 
 // Where a byte stands first.
 fn place_of(text: &[u8], byte: u8) -> Option<usize>
@@ -29,7 +38,8 @@ pub struct Lines<'a> {
 impl<'a> Iterator for Lines<'a> {
     type Item = &'a [u8];
 
-    ghost next_gives = { YieldsFirstRef (λ s. lines s.rest.now) };
+    // The first line, and the rest is what is behind it.
+    ghost next_gives = { λ s r t. YieldsFirstRef (λ s. lines s.rest.now) s r t × IfSome r (λ _. t.rest.now ≡ behind newline s.rest.now) };
 
     ghost remaining = { item_count (λ s. lines s.rest.now) };
 
@@ -71,7 +81,8 @@ pub struct Words<'a> {
 impl<'a> Iterator for Words<'a> {
     type Item = &'a [u8];
 
-    ghost next_gives = { YieldsFirstRef (λ s. words s.rest.now) };
+    // The first word, and the rest is what is behind it.
+    ghost next_gives = { λ s r t. YieldsFirstRef (λ s. words s.rest.now) s r t × IfSome r (λ _. t.rest.now ≡ past_word (past_blanks s.rest.now)) };
 
     ghost remaining = { item_count (λ s. words s.rest.now) };
 

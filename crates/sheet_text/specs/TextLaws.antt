@@ -73,6 +73,13 @@ unfolding print_result print_reply
 size-is s out = reply-sized (leb 1409 (length out)) (length (sheet_text s))
 
 module _ (s : Sheet) (out : List ℕ) where
+  pub long-reply : 1409 ≤ length out → (r : ℕ) (out' : List ℕ) → Wrote 0 (sheet_text s) 1409 out out' r → r ≡ print_reply s out
+  unfolding print_reply
+  long-reply l r out' w = counted w.ends ∙ ap (λ (t : Bool). cond t (length (sheet_text s)) 0) (sym (le-leb 1409 (length out) l))
+    where
+      counted : r ≡ 0 + length (sheet_text s) → r ≡ length (sheet_text s)
+      counted q = omega (arith, q)
+
   pub long-result : 1409 ≤ length out → (r : ℕ) (out' : List ℕ) → Wrote 0 (sheet_text s) 1409 out out' r → Ok r ≡ print_result s out
   unfolding print_result
   long-result l r out' w =
@@ -85,6 +92,10 @@ module _ (s : Sheet) (out : List ℕ) where
   pub long-left : 1409 ≤ length out → (r : ℕ) (out' : List ℕ) → Wrote 0 (sheet_text s) 1409 out out' r → out' ≡ print_left s out
   unfolding print_left
   long-left l r out' w = w.lays ∙ ap (λ (t : Bool). cond t (laid_at 0 (sheet_text s) out) out) (sym (le-leb 1409 (length out) l))
+
+  pub short-reply : length out < 1409 → 0 ≡ print_reply s out
+  unfolding print_reply
+  short-reply l = ap (λ (t : Bool). cond t (length (sheet_text s)) 0) (sym (lt-leb 1409 (length out) l))
 
   pub short-result : length out < 1409 → Err ShortOutput ≡ print_result s out
   unfolding print_result

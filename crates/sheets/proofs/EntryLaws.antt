@@ -1,7 +1,7 @@
 -- What is counted of a run over a table of 1,024 rows is what its file adds.
 use Rattle.std.specs.Prelude.{ℕ, ◌-◌, ◌≤◌, ◌<◌, ◌≡◌, Bool, not, ◌||◌, List, [], ltb, length, take}
-use Rattle.std.proofs.Math.Path.{ap}
-use Rattle.std.proofs.Common.{sym, subst, ◌∙◌, arith, eq-eqb}
+use Rattle.std.proofs.Math.Path.{refl, ap}
+use Rattle.std.proofs.Common.{sym, subst, ◌∙◌, arith, eq-eqb, ne_eqb}
 use Rattle.std.proofs.Math.Bool.{true, false, cond}
 use Rattle.std.proofs.Math.Dec.{eqb}
 use Rattle.words.specs.declared.refusal.Refusal.{Refusal}
@@ -11,14 +11,17 @@ use Rattle.tables.specs.declared.Row.{Row}
 use Rattle.state.specs.declared.Bench.{Bench}
 use Rattle.state.specs.Stepped.{Stepped}
 use Rattle.state.specs.State.{State}
+use Rattle.state.specs.Tabled.{bench_of}
+use Rattle.bench.specs.Start.{no_bench, replied}
 use Rattle.format.specs.Format.{byte_at, word_at, file_refusal}
-use Rattle.schedule.specs.Opening.{ran_file}
-use Rattle.replaying.proofs.ReplayedLaws.{Stopped, used-rows, rows_few, rows_long}
+use Rattle.schedule.specs.Opening.{opening_refusal, opens, ran_file, run_reply}
+use Rattle.replaying.specs.Replayed.{rows_left}
+use Rattle.replaying.proofs.ReplayedLaws.{Stopped, begun, some-process, used-rows, rows_few, rows_long}
 use Rattle.figures.specs.declared.History.{History}
 use Rattle.figures.specs.declared.Entry.{Entry}
 use Rattle.figures.specs.Figures.{history_of, traffic_of, no_traffic}
 use Rattle.sheets.specs.Sheet.{added_by}
-use Rattle.figures.specs.Parts.{run_entry, refused_entry}
+use Rattle.figures.specs.Parts.{bench_traffic, run_entry, refused_entry, entry_of}
 
 module _ (bytes : List ℕ) where
   abbrev state : State
@@ -34,16 +37,80 @@ module _ (bytes : List ℕ) where
     pub used-fit : r.bench.rows ≤ length rows
     used-fit = omega (arith, rows_few bytes r rows s, rows_long bytes r rows s)
 
-    pub run-counted : (h : History) → h ≡ history_of (take r.bench.rows rows) → run_entry r.bench h ≡ added_by bytes
-    unfolding added_by
-    run-counted h e =
+    run-adds : (h : History) → h ≡ history_of (take r.bench.rows rows) → run_entry r.bench h ≡ adds true
+    run-adds h e =
         ap (run_entry r.bench) (e ∙ ap history_of (used-rows bytes r rows s)) ∙ ap (λ (b : Bench). run_entry b (history_of state.rows)) s.bench
-        ∙ sym (ap adds (eq-eqb (file_refusal bytes) 0 s.file))
 
-  -- one that starts none
+-- ---- what is counted of either, from the reply of its run
+
+module _ (bytes : List ℕ) (rows : List Row) (long : length rows ≡ 1024) (s : Stepped) (e : s ≡ run_reply 512 (length rows) bytes) (rows' : List Row) (f : rows' ≡ rows_left bytes rows) where
+  number_is : opening_refusal 512 (length rows) bytes ≡ file_refusal bytes
+  unfolding opening_refusal
+  number_is = rw long refl
+
+  abbrev reply : Bool → Stepped
+  reply t = cond t (replied (ran_file bytes).refusal (bench_of (state bytes))) (replied (opening_refusal 512 (length rows) bytes) no_bench)
+
+  opens-by : (t : Bool) → eqb (file_refusal bytes) 0 ≡ t → opens 512 (length rows) bytes ≡ t
+  opens-by t z = ap (λ (k : ℕ). eqb k 0) number_is ∙ z
+
+  reply-is : (t : Bool) → eqb (file_refusal bytes) 0 ≡ t → s ≡ reply t
+  unfolding run_reply
+  reply-is t z = e ∙ ap reply (opens-by t z)
+
+  -- what is counted
+  abbrev counted : Entry
+  counted = entry_of s (history_of (take s.bench.rows rows'))
+
+  stopped : eqb (file_refusal bytes) 0 ≡ true → Stopped bytes s rows'
+  stopped z = begun bytes rows long s e rows' f (sym (opens-by true z))
+
+  is-run : eqb (file_refusal bytes) 0 ≡ true → counted ≡ adds bytes true
+  is-run z =
+      ap (λ (t : Bool). of_number (cond t s.refusal 0)) (ne_eqb s.bench.n 0 not_none)
+      ∙ run-adds bytes s rows' (stopped z) (history_of (take s.bench.rows rows')) refl
+    where
+      of_number : ℕ → Entry
+      of_number k = record { refusal = k; history = history_of (take s.bench.rows rows'); traffic = bench_traffic s.bench }
+
+      not_none : (s.bench.n ≡ 0 → ⊥)
+      not_none h = omega (arith, h, some-process bytes s rows' (stopped z))
+
+  is-refused : eqb (file_refusal bytes) 0 ≡ false → counted ≡ adds bytes false
+  is-refused z =
+      ap (λ (x : Stepped). entry_of x (history_of (take x.bench.rows rows'))) (reply-is false z)
+      ∙ ap (λ (k : ℕ). record { refusal = k; history = history_of []; traffic = no_traffic }) number_is
+
+  -- a run uses no more rows than the table has, and a file that starts none uses none
+  pub rows-fit : s.bench.rows ≤ length rows'
+  rows-fit = go (eqb (file_refusal bytes) 0) refl
+    where
+      go : (t : Bool) → eqb (file_refusal bytes) 0 ≡ t → s.bench.rows ≤ length rows'
+      go true z = used-fit bytes s rows' (stopped z)
+      go false z = omega (arith, ap (λ (x : Stepped). x.bench.rows) (reply-is false z))
+
+  entry-is : counted ≡ added_by bytes
+  unfolding added_by
+  entry-is = go (eqb (file_refusal bytes) 0) refl
+    where
+      go : (t : Bool) → eqb (file_refusal bytes) 0 ≡ t → counted ≡ adds bytes t
+      go true z = is-run z
+      go false z = is-refused z
+
+  -- as the count of the rows in use gives it
+  pub counted_is : (u : ℕ) (h : History) (r : Entry) → u ≡ s.bench.rows → h ≡ history_of (take u rows') → r ≡ entry_of s h → r ≡ added_by bytes
+  counted_is u h r eu eh er = er ∙ ap (entry_of s) (eh ∙ ap (λ (k : ℕ). history_of (take k rows')) eu) ∙ entry-is
+
+-- ---- and as the code has it, of a run and of a file that starts no bench
+
+module _ (bytes : List ℕ) where
+  pub run-counted : (r : Stepped) (rows : List Row) → Stopped bytes r rows → (h : History) → h ≡ history_of (take r.bench.rows rows) → run_entry r.bench h ≡ added_by bytes
+  unfolding added_by
+  run-counted r rows s h e = run-adds bytes r rows s h e ∙ sym (ap (adds bytes) (eq-eqb (file_refusal bytes) 0 s.file))
+
   pub refused-counted : (e : Refusal) → number e ≡ file_refusal bytes → eqb (file_refusal bytes) 0 ≡ false → refused_entry (number e) ≡ added_by bytes
   unfolding added_by
-  refused-counted e f none = ap (λ (k : ℕ). record { refusal = k; history = history_of []; traffic = no_traffic }) f ∙ sym (ap adds none)
+  refused-counted e f none = ap (λ (k : ℕ). record { refusal = k; history = history_of []; traffic = no_traffic }) f ∙ sym (ap (adds bytes) none)
 
 -- ---- the number of a refusal by file is below 32
 

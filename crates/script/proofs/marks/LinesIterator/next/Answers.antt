@@ -11,7 +11,7 @@ stepped c =
     rw (c.cut.ensures.front, c.cut.ensures.back) (lines-first text some)
 
 pub returns-clause-steps : goal.returns-clause-steps
-returns-clause-steps c = stepped c
+returns-clause-steps c = (stepped c, c.cut.ensures.back)
 
 pub returns-clause-goes : goal.returns-clause-goes
 returns-clause-goes c =

@@ -4,7 +4,7 @@ use Rattle.std.specs.List.{position}
 use Rattle.std.specs.Option.{unwrap_or}
 use Rattle.std.proofs.lemmas.List.Quantifiers.{position-Some}
 use Rattle.script.specs.Lines.{is_blank, words}
-use Rattle.script.proofs.LineLaws.{no_words, next-word}
+use Rattle.script.proofs.LineLaws.{no_words, next-word, next-behind}
 use Rattle.script.proofs.marks.WordsIterator.next.Goals as goal
 
 -- the words before, and those that are left
@@ -23,7 +23,15 @@ returns-in_err-start-clause-steps c =
     search rules
 
 pub returns-clause-steps : goal.returns-clause-steps
-returns-clause-steps c = stepped c
+returns-clause-steps c =
+    let line = c.args.self.now.rest.now in
+    let found : position (λ b. not (is_blank b)) line ≡ Some c.in_ok-start.start = sym c.word_of.ensures ∙ c.in_ok-start.was in
+    let rest = c.split_at.ensures.back in (
+      stepped c,
+      rw (c.split_at-2.ensures.back, rest)
+          (next-behind line c.in_ok-start.start c.unwrap_or-end.result found
+          (c.unwrap_or-end.ensures ∙ ap (λ o. unwrap_or o (length c.split_at.result.1.now)) c.blank_of.ensures ∙ ap (λ l. unwrap_or (position is_blank l) (length l)) rest)),
+    )
 
 pub returns-clause-goes : goal.returns-clause-goes
 returns-clause-goes c =
