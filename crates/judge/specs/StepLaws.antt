@@ -1,5 +1,5 @@
 -- What each test comes to, by its branches: a row that is noted, and whose replies ended its phases; and a replica behind the processes.
-use Rattle.std.specs.Prelude.{◌≡◌, refl, ℕ, ◌-◌, Bool, true, false, not, cond, ◌&&◌, ◌||◌, List, eqb, length, get_or, set}
+use Rattle.std.specs.Prelude.{◌≡◌, ℕ, ◌-◌, Bool, true, false, not, cond, ◌&&◌, ◌||◌, List, eqb, length, get_or, set}
 use Rattle.std.proofs.Common.{sym, ap, ◌∙◌, eq-eqb, ne_eqb}
 use Rattle.std.proofs.Math.Bool.{and_assoc}
 use Rattle.replica.specs.declared.Replica.{Replica}
