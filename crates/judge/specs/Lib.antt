@@ -4,3 +4,5 @@ pub mod Scans
 pub mod ScanLaws
 pub mod TabledLaws
 pub mod FreshLaws
+pub mod StepLaws
+pub mod LoopLaws

@@ -1,7 +1,7 @@
 -- What is seen of a table, in the words of `WellFormed`: the messages that rise, and what each process waits for.
 use Rattle.std.specs.Prelude.{◌≡◌, refl, ℕ, zero, suc, ◌+◌, ◌-◌, ◌<◌, ◌≤◌, Bool, true, false, not, cond, ◌&&◌, List, [], ◌∷◌, eqb, ltb, leb, length, get_or, set, drop, Some, None}
 use Rattle.std.specs.List.{list_all}
-use Rattle.std.proofs.Common.{sym, ap, ◌∙◌, add-one, arith, drop-cons, length-set, get_or-set_same, get_or-set_other, eqb-true, leb-true, le-leb, ne_eqb, lt-ltb, le-ltb}
+use Rattle.std.proofs.Common.{sym, true≢false, ap, ◌∙◌, add-one, arith, drop-cons, length-set, get_or-set_same, get_or-set_other, eqb-true, leb-true, le-leb, ne_eqb, lt-ltb, le-ltb}
 use Rattle.std.proofs.Math.Bool.{and_assoc}
 use Rattle.std.proofs.lemmas.Bool.{eqb-false, not-true}
 use Rattle.words.specs.declared.Message.{Message}
@@ -11,7 +11,7 @@ use Rattle.words.specs.RangeLaws.{and_left, and_right}
 use Rattle.tables.specs.declared.Row.{Row}
 use Rattle.tables.specs.Tables.{empty_row}
 use Rattle.state.specs.State.{State}
-use Rattle.state.specs.WellFormed.{every, message_fits, rising, is_write, row_fits, pending_of, is_empty, pairs_fit}
+use Rattle.state.specs.WellFormed.{every, message_fits, rising, is_write, row_fits, pending_of, is_empty, is_only, pairs_fit}
 use Rattle.judge.specs.declared.Waiting.{Waiting}
 use Rattle.judge.specs.declared.Waiting.TheVariants.{Nothing, One, Several}
 use Rattle.judge.specs.declared.Pending.{Pending}
@@ -76,7 +76,7 @@ abbrev pub waits : ℕ → ℕ → Waiting → List Row → Waiting
 waits p number w [] = w
 waits p number w (r ∷ rest) = waits p (suc number) (cond (is_pending_of p r) (noted w number r) w) rest
 
-process-within : (r : Row) → is_pending r ≡ true → (1 ≤ r.process.0) × (r.process.0 ≤ 7)
+pub process-within : (r : Row) → is_pending r ≡ true → (1 ≤ r.process.0) × (r.process.0 ≤ 7)
 process-within r e = (least q (eqb-false q 0 (not-true (eqb q 0) (and_left (not (eqb q 0)) (leb q 7) h))), leb-true q 7 (and_right (not (eqb q 0)) (leb q 7) h))
   where
     q : ℕ
@@ -192,3 +192,49 @@ waits-classified p number (r ∷ rest) = go (is_pending_of p r) (waits-more p (s
         → waits p (suc number) (cond t (One seen) Nothing) rest ≡ classified (λ i. get_or (r ∷ rest) (i - number) empty_row) (cond t (number ∷ pending_of p (suc number) rest) (pending_of p (suc number) rest))
     go true more none = more ∙ one (pending_of p (suc number) rest)
     go false more none = none ∙ shifted r rest number (pending_of p (suc number) rest) (λ i is e. from-first p (suc number) i rest is e)
+
+-- ---- and so: whether there is none to wait for, whether this is the only one, and what was noted of it
+
+abbrev pub is_none : Waiting → Bool
+is_none Nothing = true
+is_none (One seen) = false
+is_none Several = false
+
+-- the only pending row is the one of this number
+abbrev pub is_one : ℕ → Waiting → Bool
+is_one row Nothing = false
+is_one row (One seen) = eqb seen.row row
+is_one row Several = false
+
+pub waits-none : (p number : ℕ) (xs : List Row) → is_none (waits p number Nothing xs) ≡ is_empty (pending_of p number xs)
+waits-none p number xs = ap is_none (waits-classified p number xs) ∙ go (pending_of p number xs)
+  where
+    go : (is : List ℕ) → is_none (classified (λ i. get_or xs (i - number) empty_row) is) ≡ is_empty is
+    go [] = refl
+    go (i ∷ []) = refl
+    go (i ∷ j ∷ more) = refl
+
+pub waits_one : (p number row : ℕ) (xs : List Row) → is_one row (waits p number Nothing xs) ≡ is_only row (pending_of p number xs)
+waits_one p number row xs = ap (is_one row) (waits-classified p number xs) ∙ go (pending_of p number xs)
+  where
+    alone : (t : Bool) → t ≡ (t && true)
+    alone true = refl
+    alone false = refl
+
+    more-there : (t : Bool) → false ≡ (t && false)
+    more-there true = refl
+    more-there false = refl
+
+    go : (is : List ℕ) → is_one row (classified (λ i. get_or xs (i - number) empty_row) is) ≡ is_only row is
+    go [] = refl
+    go (i ∷ []) = alone (eqb i row)
+    go (i ∷ j ∷ more) = more-there (eqb i row)
+
+pub waits-row : (p number row : ℕ) (xs : List Row) → is_only row (pending_of p number xs) ≡ true
+    → waits p number Nothing xs ≡ One (record { row = row; write = is_write (get_or xs (row - number) empty_row).kind; query = (get_or xs (row - number) empty_row).replied.query })
+waits-row p number row xs h = waits-classified p number xs ∙ go (pending_of p number xs) h
+  where
+    go : (is : List ℕ) → is_only row is ≡ true → classified (λ i. get_or xs (i - number) empty_row) is ≡ classified (λ i. get_or xs (i - number) empty_row) (row ∷ [])
+    go [] e = absurd (true≢false (sym e))
+    go (i ∷ []) e = ap (λ (k : ℕ). classified (λ i. get_or xs (i - number) empty_row) (k ∷ [])) (eqb-true i row (and_left (eqb i row) true e))
+    go (i ∷ j ∷ more) e = absurd (true≢false (sym (and_right (eqb i row) false e)))

@@ -25,7 +25,7 @@ use Rattle.judge.specs.Scans.{limits_of, limited, counts_judged, risen, messages
 use Rattle.judge.specs.Scans.{phase_judged, replica_judged, each_judged, replicas_judged, judged}
 use Rattle.judge.specs.ScanLaws.{rises, all_noted, all-scanned, waits, waiting-seen, classified, waits-classified}
 
-and-true : (a : Bool) → (a && true) ≡ a
+pub and-true : (a : Bool) → (a && true) ≡ a
 and-true true = refl
 and-true false = refl
 
