@@ -4,7 +4,7 @@ use Rattle.std.proofs.Common.{sym, ap, ◌∙◌, append_assoc, append-nil, leng
 use native.Mathlib.Omega.{arith}
 use Rattle.tables.specs.Tables.{laid_at}
 use Rattle.text.specs.LaidLaws.{laid-last}
-use Rattle.text.specs.Digits.{places, last_digits}
+use Rattle.text.specs.Digits.{places, last_digits, two_digits}
 use Rattle.text.specs.Printed.{digits, decimal}
 
 -- 10 to the power k
@@ -96,6 +96,27 @@ decimal-step n more fits =
 
     counted : places 20 n ≡ suc (places 20 (n / 10))
     counted = places-more 19 n more ∙ ap suc (sym (places-enough 18 (n / 10) less))
+
+-- a number of two digits
+pub decimal-two : (n : ℕ) → 10 ≤ n → n < 100 → two_digits n ≡ decimal n
+decimal-two n more h = ap (λ (t : List ℕ). t ++ ((48 + n % 10) ∷ [])) (decimal-digit (n / 10) (omega arith)) ∙ decimal-step n more (omega arith)
+
+-- a number of more: what stands before the last two digits, and these
+pub decimal-pair : (n : ℕ) → 100 ≤ n → n < tens 20 → decimal (n / 100) ++ two_digits (n % 100) ≡ decimal n
+decimal-pair n more fits =
+    ap (λ (t : List ℕ). decimal (n / 100) ++ t) (ap (λ (d : ℕ). d ∷ ((48 + n % 100 % 10) ∷ [])) first ∙ ap (λ (d : ℕ). (48 + n / 10 % 10) ∷ (d ∷ [])) last)
+    ∙ sym (append_assoc (decimal (n / 100)) ((48 + n / 10 % 10) ∷ []) ((48 + n % 10) ∷ []))
+    ∙ ap (λ (t : List ℕ). t ++ ((48 + n % 10) ∷ [])) (ap (λ (m : ℕ). decimal m ++ ((48 + n / 10 % 10) ∷ [])) before ∙ decimal-step (n / 10) (omega arith) (omega arith))
+    ∙ decimal-step n (omega arith) fits
+  where
+    before : n / 100 ≡ n / 10 / 10
+    before = omega arith
+
+    first : 48 + n % 100 / 10 ≡ 48 + n / 10 % 10
+    first = omega arith
+
+    last : 48 + n % 100 % 10 ≡ 48 + n % 10
+    last = omega arith
 
 -- counting: so many are counted, these are the digits before them, and so many are left at most
 abbrev pub Counting : ℕ → ℕ → ℕ → Type 0

@@ -15,3 +15,7 @@ last_digits (suc k) n = last_digits k (n / 10) ++ ((48 + n % 10) ∷ [])
 abbrev pub sign_text : ℤ → List ℕ
 sign_text (pos n) = []
 sign_text (negsuc n) = 45 ∷ []
+
+-- the digits of a number below 100, the first also where it is 0
+abbrev pub two_digits : ℕ → List ℕ
+two_digits n = (48 + n / 10) ∷ ((48 + n % 10) ∷ [])

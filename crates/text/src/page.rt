@@ -15,7 +15,7 @@ ghost use Rattle.std.specs.Prelude.{◌≡◌, ℕ, ◌+◌, ◌*◌, ◌≤◌,
 ghost use Rattle.text.specs.Paged.{Room, Adds};
 ghost use Rattle.text.specs.Printed.{decimal, number, signed, field};
 ghost use Rattle.text.specs.Short.{Short};
-ghost use Rattle.text.specs.Digits.{sign_text};
+ghost use Rattle.text.specs.Digits.{sign_text, two_digits};
 
 use crate::numbers::Number;
 use words::Time;
@@ -51,6 +51,18 @@ impl<'a> Page<'a> {
         self.put_bytes(text.as_bytes());
     }
 
+    // The two digits of a number below 100.
+    fn put_two(&mut self, n: u64)
+        requires { (n < 100) × Room 2 self.old }
+        ensures { Adds (two_digits n) 2 self.old self.new }
+    {
+        let at = self.used;
+        self.bytes[at] = b'0' + (n / 10) as u8;
+        self.bytes[at + 1] = b'0' + (n % 10) as u8;
+        self.used = at + 2;
+    }
+
+    // Two digits a call: with a call for each, a file of large numbers takes three tenths more instructions.
     pub fn put_decimal(&mut self, n: u64)
         requires { Room (length (decimal n)) self.old }
         ensures { Adds (decimal n) (length (decimal n)) self.old self.new }
@@ -58,8 +70,11 @@ impl<'a> Page<'a> {
         if n < 10 {
             return self.put_byte(b'0' + n as u8);
         }
-        self.put_decimal(n / 10);
-        self.put_byte(b'0' + (n % 10) as u8);
+        if n < 100 {
+            return self.put_two(n);
+        }
+        self.put_decimal(n / 100);
+        self.put_two(n % 100);
     }
 
     // A space, and a number.
