@@ -40,7 +40,7 @@ pub fn survey(text: &[u8], number: usize) -> Result<usize, NotComposed>
     ensures { result ≡ surveyed 7 (following number 7 (lines text.now)) }
 {
     let mut size = HEAD;
-    // Zipped with their numbers the lines take five instructions more each, and `compose` then misses its bar (docs/SPEED.md).
+    // Zipped with their numbers the lines take five instructions more each, and `compose` has a bar (docs/SPEED.md).
     let mut line = number;
     for next in (Lines { rest: text }) {
         match grown(size, next) {
