@@ -171,9 +171,6 @@ module _ (byte : ℕ) (text : List ℕ) (end : ℕ) (found : end ≡ unwrap_or (
   ends : length (before byte text) ≡ end
   ends = before-length byte text ∙ sym (or-all (position_or_len (λ b. eqb b byte) text) (length text) (omega (arith, before-length byte text, before-within byte text))) ∙ sym found
 
-  pub end-within : end ≤ length text
-  end-within = omega (arith, ends, before-within byte text)
-
   pub end-front : take end text ≡ before byte text
   end-front = ap (λ n. take n text) (sym ends) ∙ take-before byte text
 

@@ -21,7 +21,7 @@ leads (b ∷ rest) = is_empty rest || not (eqb b 48)
 
 abbrev pub is_number : List ℕ → Bool
 is_number [] = false
-is_number (b ∷ rest) = digits_only (b ∷ rest) && (is_empty rest || not (eqb b 48))
+is_number (b ∷ rest) = digits_only (b ∷ rest) && leads (b ∷ rest)
 
 -- the number that digits make, behind one that was made before
 abbrev pub value : ℕ → List ℕ → ℕ
